@@ -1,0 +1,6 @@
+pub mod Tests
+pub mod Laws
+pub mod Branches
+pub mod Searching
+pub mod Settling
+pub mod Grounds

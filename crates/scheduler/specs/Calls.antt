@@ -1,0 +1,114 @@
+-- The calls: settling, hand in, close a step, wind up.
+use Prim.Native.Nat.{ℕ, zero, suc, _<_}
+use mathlib.Core.Bool.{Bool, true, false, not, _&&_, _||_}
+use mathlib.Core.List.{List, [], _∷_}
+use mathlib.Core.Option.{Option, none, some, Option·map}
+use mathlib.Core.Path.{_≡_}
+use lib.Dec.{eqb}
+use Rattle.scheduler.specs.Types.{Held, Done, Refused, Lapsed, State}
+use Rattle.scheduler.specs.Base.{anyBelow, firstOf, when, orElse, lowest}
+use Rattle.scheduler.specs.State.{eventCount, ruleCount, stepOf, ruleAt, rejectable, delayable, fateOf, isOpen, isHeld, hold, settleAs, shut, breakRule}
+use Rattle.scheduler.specs.Rules.{stands, forbids, owes, barred}
+use Rattle.scheduler.specs.Orders.{Viable, First, chosen, doAll}
+
+-- e is the lowest-numbered declared event of which P holds
+pub record Lowest (s : State) (P : ℕ → Type 0) (e : ℕ) : Type 0 where
+  pub declared : e < eventCount (s .plan)
+  pub is : P e
+  pub none-below : (d : ℕ) → d < e → P d → ⊥
+
+abbrev pub IsHeld : State → ℕ → Type 0
+IsHeld s e = fateOf s e ≡ Held
+
+abbrev pub HeldBarred : State → ℕ → Type 0
+HeldBarred s e = (fateOf s e ≡ Held) × (barred s e ≡ true)
+
+abbrev pub HeldViable : State → ℕ → Type 0
+HeldViable s e = (fateOf s e ≡ Held) × (o : List ℕ) × Viable s e o
+
+-- one turn of settling: "If any held event is barred, refuse the lowest-numbered such one. Otherwise do the chosen order of the
+-- lowest-numbered held event that has a viable order."
+pub data Turn (s : State) : State → Type 0 where
+  refuses : (e : ℕ) → Lowest s (HeldBarred s) e → Turn s (settleAs Refused s e)
+  does : (e : ℕ) (o : List ℕ) → ((d : ℕ) → d < eventCount (s .plan) → HeldBarred s d → ⊥) → Lowest s (HeldViable s) e → First s e o → Turn s (doAll s o)
+
+-- turns one after another
+pub data Turns : State → State → Type 0 where
+  stay : {s : State} → Turns s s
+  turn : {s t u : State} → Turn s t → Turns t u → Turns s u
+
+-- Settling. "Repeat until neither applies."
+pub record Settles (s t : State) : Type 0 where
+  pub turns : Turns s t
+  pub rests : (u : State) → Turn t u → ⊥
+
+-- Settling as a function, proved to be that: the event to refuse, the order to do, one turn, and turns up to a number
+unfoldable pub toRefuse : State → Option ℕ
+toRefuse s = lowest (eventCount (s .plan)) (λ e. isHeld (fateOf s e) && barred s e)
+
+unfoldable pub toDo : State → Option (List ℕ)
+toDo s = firstOf (eventCount (s .plan)) 0 (λ e. let order = chosen s e in when (isHeld (fateOf s e)) order)
+
+unfoldable pub settleOnce : State → Option State
+settleOnce s = elim (toRefuse s) [ some e ↦ some (settleAs Refused s e) | none ↦ Option·map (doAll s) (toDo s) ]
+
+unfoldable pub settleUpTo : ℕ → State → State
+settleUpTo zero s = s
+settleUpTo (suc n) s = elim (settleOnce s) [ none ↦ s | some t ↦ settleUpTo n t ]
+
+-- each turn settles an event, and there are at most 16
+unfoldable pub settle : State → State
+settle s = settleUpTo 16 s
+
+-- rule i, not recorded as broken, forbids doing e in s or owes right after it
+unfoldable pub strains : State → ℕ → ℕ → Bool
+strains s e i = stands s i && (forbids s (ruleAt (s .plan) i) e || owes (settleAs Done s e) (ruleAt (s .plan) i))
+
+abbrev pub breakIf : Bool → State → ℕ → State
+breakIf true s i = breakRule s i
+breakIf false s i = s
+
+-- t with each of the first n rules that doing e in s strains recorded as broken
+unfoldable pub recordBroken : ℕ → State → ℕ → State → State
+recordBroken zero s e t = t
+recordBroken (suc n) s e t = breakIf (strains s e n) (recordBroken n s e t) n
+
+-- "do it alone, and record as broken each rule that forbids it or owes afterwards"
+unfoldable pub doAlone : State → ℕ → State
+doAlone s e = recordBroken (ruleCount (s .plan)) s e (settleAs Done s e)
+
+-- an event that isn't delayable, held in s: "do its chosen order where there is one; else refuse it if it is rejectable; else do it alone"
+unfoldable pub decide : State → ℕ → State
+decide s e = elim (chosen s e) [ some o ↦ doAll s o | none ↦ elim (rejectable (s .plan) e) [ true ↦ settleAs Refused s e | false ↦ doAlone s e ] ]
+
+-- Hand in. "An event that isn't open: its fate is the answer and nothing changes. An open one becomes held. If it is delayable, settle. If not: [decide it]. Then settle."
+unfoldable pub submit : State → ℕ → State
+submit s e = elim (isOpen (fateOf s e)) [ false ↦ s | true ↦ elim (delayable (s .plan) e) [ true ↦ settle (hold s e) | false ↦ settle (decide (hold s e) e) ] ]
+
+-- of n events from e on, the open ones of step k lapse, lowest first
+unfoldable pub lapse : ℕ → ℕ → State → ℕ → State
+lapse zero e s k = s
+lapse (suc n) e s k = elim (isOpen (fateOf s e) && eqb (stepOf (s .plan) e) k) [ true ↦ lapse n (suc e) (settleAs Lapsed s e) k | false ↦ lapse n (suc e) s k ]
+
+-- Close a step. "Its open events lapse, lowest first; held ones stay. Then settle."
+unfoldable pub closeStep : State → ℕ → State
+closeStep s k = settle (lapse (eventCount (s .plan)) 0 (shut s k) k)
+
+-- "while any event is held, refuse the lowest held one and settle": at most n times
+unfoldable pub refuseHeld : ℕ → State → State
+refuseHeld zero s = s
+refuseHeld (suc n) s = elim (lowest (eventCount (s .plan)) (λ e. isHeld (fateOf s e))) [ none ↦ s | some e ↦ refuseHeld n (settle (settleAs Refused s e)) ]
+
+-- Wind up. "settle; then, while any event is held, refuse the lowest held one and settle." Each time settles an event, and there are at most 16
+unfoldable pub finish : State → State
+finish s = refuseHeld 16 (settle s)
+
+-- the same as a relation
+pub data Refusing : State → State → Type 0 where
+  nothing-held : {s : State} → ((e : ℕ) → e < eventCount (s .plan) → IsHeld s e → ⊥) → Refusing s s
+  refuse-next : {s t u : State} (e : ℕ) → Lowest s (IsHeld s) e → Settles (settleAs Refused s e) t → Refusing t u → Refusing s u
+
+pub record Finishes (s t : State) : Type 0 where
+  pub between : State
+  pub settles : Settles s between
+  pub refusing : Refusing between t

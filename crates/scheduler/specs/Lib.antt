@@ -1,0 +1,10 @@
+pub mod Types
+pub mod Base
+pub mod State
+pub mod Rules
+pub mod Orders
+pub mod Calls
+pub mod Faults
+pub mod Sheet
+pub mod Runner
+pub mod Demand

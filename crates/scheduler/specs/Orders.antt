@@ -1,0 +1,73 @@
+-- Viable orders, and the chosen one.
+use Prim.Native.Nat.{ℕ, zero, suc, _≤_, _<_}
+use mathlib.Core.Bool.{Bool, true, false, not, _&&_, _||_}
+use mathlib.Core.List.{List, [], _∷_, List·Memᴰ}
+use mathlib.Core.Logic.{_⊎_}
+use mathlib.Core.Option.{Option, none, some, Option·map}
+use mathlib.Core.Path.{_≡_}
+use lib.Dec.{eqb}
+use lib.ListN.{length}
+use Rattle.scheduler.specs.Types.{Done, State}
+use Rattle.scheduler.specs.Base.{firstOf, when, anyBelow}
+use Rattle.scheduler.specs.State.{eventCount, fateOf, forcible, isOpen, isHeld, settleAs}
+use Rattle.scheduler.specs.Rules.{forbidden, owing}
+
+-- "Each is held, or open and forcible."
+unfoldable pub ready : State → ℕ → Bool
+ready s c = isHeld (fateOf s c) || (isOpen (fateOf s c) && forcible (s .plan) c)
+
+-- "Each is, when its turn comes, forbidden by no rule"
+unfoldable pub mayDo : State → ℕ → Bool
+mayDo s c = ready s c && not (forbidden s c)
+
+-- the events of an order done, one after the other
+unfoldable pub doAll : State → List ℕ → State
+doAll s [] = s
+doAll s (c ∷ o) = doAll (settleAs Done s c) o
+
+-- each event may be done when its turn comes, "and after the last one no rule owes"
+abbrev pub Runs : State → List ℕ → Type 0
+Runs s [] = owing s ≡ false
+Runs s (c ∷ o) = (c < eventCount (s .plan)) × (mayDo s c ≡ true) × Runs (settleAs Done s c) o
+
+-- no number stands twice
+abbrev pub Different : List ℕ → Type 0
+Different [] = Unit {0}
+Different (c ∷ o) = (List·Memᴰ c o → ⊥) × Different o
+
+-- "A viable order for e contains e and is made of 1 to 6 different events."
+pub record Viable (s : State) (e : ℕ) (o : List ℕ) : Type 0 where
+  pub contains : List·Memᴰ e o
+  pub short : length o ≤ 6
+  pub different : Different o
+  pub runs : Runs s o
+
+-- compared from the front, o comes before q or is q
+abbrev pub Ahead : List ℕ → List ℕ → Type 0
+Ahead [] q = Unit {0}
+Ahead (c ∷ o) [] = ⊥
+Ahead (c ∷ o) (d ∷ q) = (c < d) ⊎ ((c ≡ d) × Ahead o q)
+
+-- "The chosen order is the shortest; among equally short ones, the first when event numbers are compared from the front."
+pub record First (s : State) (e : ℕ) (o : List ℕ) : Type 0 where
+  pub viable : Viable s e o
+  pub least : (q : List ℕ) → Viable s e q → (length o < length q) ⊎ ((length o ≡ length q) × Ahead o q)
+
+-- The search, proved to find exactly that. "An order of several events is a first event and then a shorter order from the state after it."
+-- the first order of k of the events that pass the test `candidate`, compared from the front, that contains e (or had it already) and after which no rule owes
+unfoldable pub orderOf : (ℕ → Bool) → ℕ → State → ℕ → Bool → Option (List ℕ)
+orderOf candidate zero s e had = when (had && not (owing s)) (some [])
+orderOf candidate (suc k) s e had = firstOf (eventCount (s .plan)) 0 (λ c. let later = Option·map (λ o. c ∷ o) (orderOf candidate k (settleAs Done s c) e (had || eqb c e)) in when (candidate c && mayDo s c) later)
+
+-- the chosen order for e: of lengths 1 to 6 the first that has one
+unfoldable pub chosen : State → ℕ → Option (List ℕ)
+chosen s e = firstOf 6 1 (λ k. orderOf (λ c. true) k s e false)
+
+-- some order of k events contains e (or had it already), and no rule owes after it
+unfoldable pub someOrder : ℕ → State → ℕ → Bool → Bool
+someOrder zero s e had = had && not (owing s)
+someOrder (suc k) s e had = anyBelow (eventCount (s .plan)) (λ c. let later = someOrder k (settleAs Done s c) e (had || eqb c e) in mayDo s c && later)
+
+-- a viable order for e exists, as a test that tries them all
+unfoldable pub hasViable : State → ℕ → Bool
+hasViable s e = anyBelow 6 (λ k. someOrder (suc k) s e false)

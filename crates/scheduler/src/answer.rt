@@ -1,0 +1,37 @@
+use super::event::Fate;
+use super::state::State;
+
+// Why a sheet or a call is turned down, in the order of their numbers 1 to 12.
+pub enum Fault {
+    Cut,
+    BadKind,
+    Full,
+    BadStep,
+    BadAttributes,
+    BadNames,
+    Unenforceable,
+    Extra,
+    Unknown,
+    AlreadyClosed,
+    NotClosed,
+    Incoherent,
+}
+
+// What a call answers: a hand-in the event's fate, the others that they were made.
+pub enum Answer {
+    Is(Fate),
+    Made,
+    TurnedDown(Fault),
+}
+
+// What reading a sheet comes to: refused with the fault and its offset.
+pub enum Verdict {
+    Admitted,
+    Refused(Fault, usize),
+}
+
+// A sheet turned down gives the empty state.
+pub struct Reading {
+    pub verdict: Verdict,
+    pub state: State,
+}

@@ -1,0 +1,435 @@
+-- Demand 3, of the scheduler of document 01.
+use Prim.Native.Nat.{ℕ, zero, suc, _+_, _≤_, _<_}
+use native.Mathlib.Omega.{arith}
+use native.Mathlib.Decide.{ℕ-discrete, decLt}
+use borrow.Author.Tests.{eq-eqb, ne-eqb, ltb-true, ltb-false, lt-ltb, le-leb, lt-leb, not-true}
+use mathlib.Core.Bool.{Bool, true, false, not, _&&_, _||_, and-false}
+use mathlib.Core.List.{List, [], _∷_, _++_, append-nil}
+use mathlib.Core.Logic.{_≢_, _⊎_, inl, inr}
+use mathlib.Core.Option.{Option, none, some}
+use mathlib.Core.Path.{_≡_, refl, sym, _∙_, ap, subst}
+use lib.Dec.{eqb, ltb, leb}
+use lib.ListN.{length, getD, take, drop, length-replicate, getD-replicate, replicate}
+use Rattle.theory.proofs.Types.{Fate, Open, Held, Done, Refused, Lapsed, Rule, Order, Need, Conditional, Plan, Standing, Entry, State, Fault, Unknown, AlreadyClosed, NotClosed, Answer}
+use Rattle.scheduler.specs.Base.{anyBelow, allBelow, countBelow, among, thoseBelow, readAt}
+use Rattle.scheduler.specs.State.{eventCount, ruleCount, stepOf, ruleAt, firstState, blankStanding, blankEntry, fateOf, brokenAt, closedAt, lines, isOpen, isHeld, isDone, isGone, isSettled, hold, shut, settleAs}
+use Rattle.scheduler.specs.Rules.{soundEvent, fateIf, fatesIn, doneInTurn, forbids, owes, holds, badStep}
+use Rattle.scheduler.specs.Orders.{Viable, hasViable}
+use Rattle.scheduler.specs.Calls.{strains, doAlone, submit, closeStep, finish}
+use Rattle.scheduler.specs.Faults.{firstFault, declaredOnly, coherent, hasEvent, Call, submitting, closing, finishing, callFault, Reply, accept, call, isTurnedDown}
+use Rattle.scheduler.specs.Sheet.{readSheet, admitted}
+use Rattle.scheduler.specs.Demand.{Scheduler, after, Story, seen, Observed, nothingYet, waitsAs, observedFate, stateOf, accepted, startsDone, doneAlone, against, newlyRecorded, shows, onlyHistory, observe, observeAll, broken, unbreakable, Holds, Extends, Grows, Demand3, Keeps, scheduler, Sized}
+use Rattle.scheduler.proofs.Tests.{clash, either, or-left, or-right, or-both, and-left, and-right, and-both, and-not, any-false, any-none, any-some, any-found, all-at, all-of, count-same}
+use Rattle.scheduler.proofs.Laws.{open-is, fate-hold-same, fate-hold-other, plan-hold, closed-hold, broken-hold, lines-hold, broken-settle, fate-shut, broken-shut, lines-shut, closed-shut-same, closed-shut-other}
+use Rattle.scheduler.proofs.Branches.{submit-same, call-fault, call-accept}
+use Rattle.theory.proofs.Sound.{Sound}
+use Rattle.theory.proofs.Fresh.{sheet-first, sheet-sound}
+use Rattle.theory.proofs.Books.{Shape, Books, Tidy, same-events, shape-hold}
+use Rattle.theory.proofs.Keep.{Laws, Strict, Quiet, unpaid}
+use Rattle.theory.proofs.Good.{Later, Good, Resting, tidy-shut, strict-shut, close-good, finish-good}
+use Rattle.theory.proofs.Submit.{strict-hold, Recorded, alone-recorded, Manner, ordered, waited, alone, Handed, submit-good}
+use Rattle.theory.proofs.Coherent.{rule-holds, good-coherent}
+use Rattle.theory.proofs.Passes.{call-taken, fault-answer}
+use Rattle.theory.proofs.Shown.{Agrees, fates-observed, fate-observed, shown, alone-new, same-test, or-true, or-in, among-append, those-in, those-only}
+
+-- the invariant of a list: what is observed so far, and the state
+pub record At (p : Plan) (o : Observed) (s : State) : Type 0 where
+  pub good : Good p s
+  pub tidy : Tidy p s
+  pub strict : Strict p s
+  pub rest : Resting s
+  pub agrees : Agrees o s
+  pub finished : o .finished ≡ true → (e : ℕ) → e < eventCount p → isSettled (fateOf s e) ≡ true
+
+-- the first state
+module _ (p : Plan) (sd : Sound p) where
+  read-blank : {A : Type 0} (n : ℕ) (a : A) (i : ℕ) → readAt n (replicate n a) i a ≡ a
+  read-blank n a i = elim (decLt i n) [ yes lt ↦ rw (lt-ltb i n lt, getD-replicate n i a a lt) | no ge ↦ rw (borrow.Author.Tests.le-ltb i n (omega arith)) ]
+
+  all-open : (e : ℕ) → fateOf (firstState p) e ≡ Open
+  all-open e = ap (λ (v : Standing). v .fate) (read-blank 16 blankStanding e)
+
+  unbroken : (i : ℕ) → brokenAt (firstState p) i ≡ false
+  unbroken i = read-blank 16 false i
+
+  none-done : (e : ℕ) → isDone (fateOf (firstState p) e) ≡ false
+  none-done e = ap isDone (all-open e)
+
+  count-zero : (n : ℕ) → countBelow n (λ e. false) ≡ 0
+  unfolding countBelow
+  count-zero zero = refl
+  count-zero (suc n) = ap (λ m. 0 + m) (count-zero n)
+
+  first-books : Books p (firstState p)
+  unfolding fatesIn declaredOnly
+  first-books = record {
+    shape = record { same-plan = refl; sized = record { standings-len = length-replicate 16 blankStanding; broken-len = length-replicate 16 false; closed-len = length-replicate 8 false; history-len = length-replicate 16 blankEntry } };
+    few = sd .few-events;
+    tally = sym (count-same (eventCount p) (λ e. isSettled (fateOf (firstState p) e)) (λ e. false) (λ e l. ap isSettled (all-open e)) ∙ count-zero (eventCount p));
+    listed = λ e l. sym (ap (λ x. fateIf (isSettled x) x) (all-open e));
+    only = refl;
+  }
+
+  first-unpaid : (r : Rule) → unpaid (firstState p) r ≡ false
+  unfolding unpaid
+  first-unpaid (Order a b) = refl
+  first-unpaid (Need a b) = rw (none-done a)
+  first-unpaid (Conditional a b c) = rw (none-done a)
+
+  first-owes : (r : Rule) → owes (firstState p) r ≡ false
+  unfolding owes
+  first-owes (Order a b) = refl
+  first-owes (Need a b) = rw (none-done a)
+  first-owes (Conditional a b c) = rw (none-done a)
+
+  first-good : Good p (firstState p)
+  unfolding doneInTurn
+  first-good = record {
+    books = first-books;
+    laws = record { turn = λ i a b l n r. refl; paid = λ i l n. first-unpaid (ruleAt p i) };
+    quiet = λ i l n. first-owes (ruleAt p i);
+    held = λ e l h. absurd (clash (ap isHeld h) (ap isHeld (all-open e)));
+    still = λ e l q. read-blank 8 false (stepOf p e);
+  }
+
+  pub at-first : At p nothingYet (firstState p)
+  unfolding among
+  at-first = record {
+    good = first-good;
+    tidy = record { unused = λ e ge. all-open e; blank = λ i ge. blank-line i };
+    strict = record { first = λ i a b l r d h. absurd (clash h (none-done b)); weak = λ i l n. absurd (clash n (unbroken i)) };
+    rest = λ e q h v. clash (ap isHeld h) (ap isHeld (all-open e));
+    agrees = record { history = refl; waits = λ e u. all-open e; closed = λ k l. read-blank 8 false k; recorded = λ i l. unbroken i };
+    finished = λ w. absurd (clash w refl);
+  }
+    where
+      blank-line : (i : ℕ) → getD (replicate 16 blankEntry) i blankEntry ≡ blankEntry
+      blank-line i = elim (decLt i 16) [ yes lt ↦ getD-replicate 16 i blankEntry blankEntry lt | no ge ↦ lib.ListN.List·getD-eq-default (replicate 16 blankEntry) blankEntry {n = i} (omega (arith, length-replicate 16 blankEntry)) ]
+
+-- what a call shows
+observe-no : (p : Plan) (o : Observed) (c : Call) (h : List Entry) → accepted p o c ≡ false → observe p o c h ≡ onlyHistory o h
+unfolding observe
+observe-no p o c h q = rw (q, observe)
+
+observe-yes : (p : Plan) (o : Observed) (c : Call) (h : List Entry) → accepted p o c ≡ true → observe p o c h ≡ shows p o c h
+unfolding observe
+observe-yes p o c h q = rw (q, observe)
+
+recorded-no : (p : Plan) (o : Observed) (e : ℕ) (h : List Entry) → doneAlone p o e h ≡ false → newlyRecorded p o e h ≡ []
+unfolding newlyRecorded
+recorded-no p o e h q = rw (q, newlyRecorded)
+
+recorded-yes : (p : Plan) (o : Observed) (e : ℕ) (h : List Entry) → doneAlone p o e h ≡ true → newlyRecorded p o e h ≡ thoseBelow (ruleCount p) (against p (hold (stateOf p o) e) e)
+unfolding newlyRecorded
+recorded-yes p o e h q = rw (q, newlyRecorded)
+
+-- a call that is turned down shows the same history again
+at-kept : {p : Plan} {o : Observed} {s : State} → At p o s → At p (onlyHistory o (lines s)) s
+at-kept k = record { good = k .good; tidy = k .tidy; strict = k .strict; rest = k .rest; agrees = record { history = refl; waits = k .agrees .waits; closed = k .agrees .closed; recorded = k .agrees .recorded }; finished = k .finished }
+
+-- the state after an accepted call, and its history
+record Step (p : Plan) (o : Observed) (s t : State) : Type 0 where
+  pub at : At p o t
+  pub extends : Extends (lines s) (lines t)
+
+module _ {p : Plan} {o : Observed} {s : State} (sd : Sound p) (k : At p o s) where
+  sh : Shape p s
+  sh = k .good .books .shape
+
+  finished-later : (t : State) → ((e : ℕ) → (isSettled (fateOf t e) ≡ true) ⊎ (fateOf t e ≡ fateOf s e)) → o .finished ≡ true → (e : ℕ) → e < eventCount p → isSettled (fateOf t e) ≡ true
+  finished-later t f w e l = elim (f e) [ inl z ↦ z | inr z ↦ ap isSettled z ∙ k .finished w e l ]
+
+  waits-later : (t : State) → ((e : ℕ) → (isSettled (fateOf t e) ≡ true) ⊎ (fateOf t e ≡ fateOf s e)) → (e : ℕ) → isSettled (fateOf t e) ≡ false → fateOf t e ≡ waitsAs (among e (o .submitted))
+  waits-later t f e u = elim (f e) [ inl z ↦ absurd (clash z u) | inr z ↦ z ∙ k .agrees .waits e (sym (ap isSettled z) ∙ u) ]
+
+  -- closing
+  hasEvent-same : (j : ℕ) → hasEvent (s .plan) j ≡ hasEvent p j
+  hasEvent-same j = ap (λ q. hasEvent q j) (sh .same-plan)
+
+  pub step-bound : (j : ℕ) → hasEvent p j ≡ true → j < 8
+  unfolding hasEvent soundEvent
+  step-bound j h =
+      let z = any-found (eventCount p) (λ e. eqb (stepOf p e) j) h in
+      let q : stepOf p (z .0) ≡ j = borrow.Author.Tests.eqb-true (stepOf p (z .0)) j (z .2) in
+      let b = ltb-false 7 (stepOf p (z .0)) (not-true (badStep (stepOf p (z .0))) (and-left (not (badStep (stepOf p (z .0)))) (not (Rattle.scheduler.specs.Rules.badAttributes (Rattle.scheduler.specs.State.attributesOf p (z .0)))) (sd .event (z .0) (z .1)))) in
+      omega arith
+
+  shut-closed : (j : ℕ) → j < 8 → (i : ℕ) → i < 8 → closedAt (shut s j) i ≡ among i (j ∷ o .closedSteps)
+  unfolding among
+  shut-closed j l i m = elim (ℕ-discrete i j) [ yes r ↦ rw (eq-eqb i j r) (rw r (closed-shut-same s j (sh .sized) l)) | no ne ↦ rw (ne-eqb i j ne) (closed-shut-other s j i ne ∙ k .agrees .closed i m) ]
+
+  at-close : (j : ℕ) → j < 8 → Step p (shows p o (closing j) (lines (closeStep s j))) s (closeStep s j)
+  at-close j l =
+      let z = close-good sd (k .good) j in
+      let f : (e : ℕ) → (isSettled (fateOf (closeStep s j) e) ≡ true) ⊎ (fateOf (closeStep s j) e ≡ fateOf s e) = λ e. elim (z .later .fates e) [ inl y ↦ inl y | inr y ↦ inr (y ∙ fate-shut s j e) ] in
+      record {
+        at = record {
+          good = z .good;
+          tidy = z .later .tidy (tidy-shut p s j (k .tidy));
+          strict = z .later .strict (strict-shut p s j (k .strict));
+          rest = z .rest;
+          agrees = record {
+            history = refl;
+            waits = waits-later (closeStep s j) f;
+            closed = λ i m. z .later .same-closed i ∙ shut-closed j l i m;
+            recorded = λ i m. z .later .same-broken i ∙ broken-shut s j i ∙ k .agrees .recorded i m;
+          };
+          finished = finished-later (closeStep s j) f;
+        };
+        extends = (z .later .new, z .later .lines-new ∙ ap (λ h. h ++ z .later .new) (lines-shut s j));
+      }
+
+  -- winding up
+  neither : (x : Fate) → (x ≡ Open → ⊥) → (x ≡ Held → ⊥) → isSettled x ≡ true
+  neither Open a b = absurd (a refl)
+  neither Held a b = absurd (b refl)
+  neither Done a b = refl
+  neither Refused a b = refl
+  neither Lapsed a b = refl
+
+  has-step : (e : ℕ) → e < eventCount p → hasEvent p (stepOf p e) ≡ true
+  unfolding hasEvent
+  has-step e l = any-some (eventCount p) (λ j. eqb (stepOf p j) (stepOf p e)) e l (eq-eqb (stepOf p e) (stepOf p e) refl)
+
+  at-finish : accepted p o finishing ≡ true → Step p (shows p o finishing (lines (finish s))) s (finish s)
+  unfolding accepted
+  at-finish ok =
+      let z = finish-good sd (k .good) in
+      let f = z .settled .later in
+      record {
+        at = record {
+          good = z .settled .good;
+          tidy = f .tidy (k .tidy);
+          strict = f .strict (k .strict);
+          rest = z .settled .rest;
+          agrees = record { history = refl; waits = waits-later (finish s) (f .fates); closed = λ i m. f .same-closed i ∙ k .agrees .closed i m; recorded = λ i m. f .same-broken i ∙ k .agrees .recorded i m };
+          finished = λ w e l. neither (fateOf (finish s) e) (λ q. clash (f .same-closed (stepOf p e) ∙ k .agrees .closed (stepOf p e) (step-bound (stepOf p e) (has-step e l)) ∙ shut-there e l) (z .settled .good .still e l q)) (z .none-held e l);
+        };
+        extends = (f .new, f .lines-new);
+      }
+    where
+      shut-there : (e : ℕ) → e < eventCount p → among (stepOf p e) (o .closedSteps) ≡ true
+      shut-there e l = rw (has-step e l) at (all-at 8 (λ j. not (hasEvent p j) || among j (o .closedSteps)) ok (stepOf p e) (step-bound (stepOf p e) (has-step e l)))
+
+  -- handing in: a further event among those handed in
+  waits-more : (e j : ℕ) (x : Fate) → (j ≡ e → x ≡ Held) → (j ≢ e → x ≡ waitsAs (among j (o .submitted))) → x ≡ waitsAs (among j (e ∷ o .submitted))
+  unfolding among
+  waits-more e j x a b = elim (ℕ-discrete j e) [ yes r ↦ rw (eq-eqb j e r) (a r) | no ne ↦ rw (ne-eqb j e ne) (b ne) ]
+
+  is-held : (x : Fate) → isOpen x ≡ false → isSettled x ≡ false → x ≡ Held
+  is-held Open a b = absurd (clash refl a)
+  is-held Held a b = refl
+  is-held Done a b = absurd (clash refl b)
+  is-held Refused a b = absurd (clash refl b)
+  is-held Lapsed a b = absurd (clash refl b)
+
+  -- an event that is not open: nothing changes
+  at-same : (e : ℕ) → isOpen (fateOf s e) ≡ false → Step p (shows p o (submitting e) (lines s)) s s
+  at-same e q =
+      let none-new : newlyRecorded p o e (lines s) ≡ [] = recorded-no p o e (lines s) (ap (doneAlone p o e) (sym (append-nil (lines s))) ∙ alone-new (k .good .books) (k .tidy) (k .agrees) e [] ∙ rw q) in
+      record {
+        at = record {
+          good = k .good;
+          tidy = k .tidy;
+          strict = k .strict;
+          rest = k .rest;
+          agrees = record { history = refl; waits = λ j u. waits-more e j (fateOf s j) (λ r. is-held (fateOf s j) (ap (λ i. isOpen (fateOf s i)) r ∙ q) u) (λ ne. k .agrees .waits j u); closed = k .agrees .closed; recorded = λ i l. k .agrees .recorded i l ∙ ap (λ n. among i (n ++ o .recorded)) (sym none-new) };
+          finished = k .finished;
+        };
+        extends = ([], sym (append-nil (lines s)));
+      }
+
+  module _ (e : ℕ) (lt : e < eventCount p) (q : isOpen (fateOf s e) ≡ true) where
+    z : Handed p (hold s e) (submit s e) e
+    z = submit-good sd (k .good) e lt q
+
+    lines-after : lines (submit s e) ≡ lines s ++ z .new
+    lines-after = z .lines-new ∙ ap (λ h. h ++ z .new) (lines-hold s e)
+
+    alone-after : doneAlone p o e (lines (submit s e)) ≡ (startsDone (z .new) e && not (hasViable (hold s e) e))
+    alone-after = ap (doneAlone p o e) lines-after ∙ alone-new (k .good .books) (k .tidy) (k .agrees) e (z .new) ∙ rw q
+
+    waits-after : (j : ℕ) → isSettled (fateOf (submit s e) j) ≡ false → fateOf (submit s e) j ≡ waitsAs (among j (e ∷ o .submitted))
+    waits-after j u = elim (z .fates j) [
+      | inl v ↦ absurd (clash v u)
+      | inr v ↦ waits-more e j (fateOf (submit s e) j)
+          (λ r. v ∙ rw r (fate-hold-same s e (sh .sized) (omega (arith, sd .few-events))))
+          (λ ne. let y = v ∙ fate-hold-other s e j ne in y ∙ k .agrees .waits j (sym (ap isSettled y) ∙ u))
+    ]
+
+    -- the rules recorded before and now
+    against-strains : (i : ℕ) → against p (hold (stateOf p o) e) e i ≡ strains (hold s e) e i
+    unfolding against strains
+    against-strains i = ap (λ t. against p (hold t e) e i) (sym (shown (k .good .books) (k .tidy) (k .agrees))) ∙ ap (λ v. not (brokenAt (hold s e) i) && (forbids (hold s e) (ruleAt v i) e || owes (settleAs Done (hold s e) e) (ruleAt v i))) (sym (plan-hold s e ∙ sh .same-plan))
+
+    r : Recorded p (ruleCount p) (hold s e) e (settleAs Done (hold s e) e) (doAlone (hold s e) e)
+    r = alone-recorded sd (shape-hold s e sh) e
+
+    before : (i : ℕ) → i < 16 → brokenAt (settleAs Done (hold s e) e) i ≡ among i (o .recorded)
+    before i l = broken-settle Done (hold s e) e i ∙ broken-hold s e i ∙ k .agrees .recorded i l
+
+    abbrev news : List ℕ
+    news = thoseBelow (ruleCount p) (against p (hold (stateOf p o) e) e)
+
+    alone-broken : (i : ℕ) → i < 16 → brokenAt (doAlone (hold s e) e) i ≡ among i (news ++ o .recorded)
+    alone-broken i l = same-test (brokenAt (doAlone (hold s e) e) i) (among i (news ++ o .recorded))
+        (λ b. among-append i news (o .recorded) ∙ or-in (among i news) (among i (o .recorded)) (elim (r .only i b) [
+          | inl y ↦ inr (sym (before i l) ∙ y)
+          | inr y ↦ inl (those-in (ruleCount p) (against p (hold (stateOf p o) e) e) i (y .0) (against-strains i ∙ y .1))
+        ]))
+        (λ a. elim (or-true (among i news) (among i (o .recorded)) (sym (among-append i news (o .recorded)) ∙ a)) [
+          | inl y ↦ let v = those-only (ruleCount p) (against p (hold (stateOf p o) e) e) i y in r .new i (v .0) (sym (against-strains i) ∙ v .1)
+          | inr y ↦ r .kept i (before i l ∙ y)
+        ])
+
+    recorded-same : doneAlone p o e (lines (submit s e)) ≡ false → ((i : ℕ) → brokenAt (submit s e) i ≡ brokenAt (hold s e) i) → (i : ℕ) → i < 16 → brokenAt (submit s e) i ≡ among i (newlyRecorded p o e (lines (submit s e)) ++ o .recorded)
+    recorded-same d b i l = b i ∙ broken-hold s e i ∙ k .agrees .recorded i l ∙ ap (λ n. among i (n ++ o .recorded)) (sym (recorded-no p o e (lines (submit s e)) d))
+
+    by-manner : Manner (hold s e) (submit s e) e (z .new) → (i : ℕ) → i < 16 → brokenAt (submit s e) i ≡ among i (newlyRecorded p o e (lines (submit s e)) ++ o .recorded)
+    by-manner (ordered h b) = recorded-same (alone-after ∙ rw h (and-false (startsDone (z .new) e))) b
+    by-manner (waited h b) = recorded-same (alone-after ∙ rw h) b
+    by-manner (alone h d b) = λ i l. b i ∙ alone-broken i l ∙ ap (λ n. among i (n ++ o .recorded)) (sym (recorded-yes p o e (lines (submit s e)) (alone-after ∙ rw (h, d))))
+
+    at-submit : Step p (shows p o (submitting e) (lines (submit s e))) s (submit s e)
+    at-submit = record {
+      at = record {
+        good = z .good;
+        tidy = z .tidy (Rattle.theory.proofs.Books.tidy-hold e (k .good .books) lt (open-is (fateOf s e) q) (k .tidy));
+        strict = z .strict (strict-hold e (k .good .books) lt (open-is (fateOf s e) q) (k .strict));
+        rest = z .rest;
+        agrees = record { history = refl; waits = waits-after; closed = λ j l. z .same-closed j ∙ closed-hold s e j ∙ k .agrees .closed j l; recorded = by-manner (z .manner) };
+        finished = λ w. absurd (clash (k .finished w e lt) (ap isSettled (open-is (fateOf s e) q)));
+      };
+      extends = (z .new, lines-after);
+    }
+
+  -- accepted is what the table says
+  coh : coherent s ≡ true
+  coh = good-coherent sd (k .good)
+
+  opens : (j : ℕ) → j < 8 → (hasEvent (s .plan) j && not (closedAt s j)) ≡ not (not (hasEvent p j) || among j (o .closedSteps))
+  opens j l = rw (hasEvent-same j, k .agrees .closed j l) (de-morgan (hasEvent p j) (among j (o .closedSteps)))
+    where
+      de-morgan : (a b : Bool) → (a && not b) ≡ not (not a || b)
+      de-morgan true b = refl
+      de-morgan false b = refl
+
+  some-open : (n : ℕ) → n ≤ 8 → allBelow n (λ j. not (hasEvent p j) || among j (o .closedSteps)) ≡ false → anyBelow n (λ j. hasEvent (s .plan) j && not (closedAt s j)) ≡ true
+  unfolding allBelow anyBelow
+  some-open zero le h = absurd (clash refl h)
+  some-open (suc n) le h = elim (either (not (hasEvent p n) || among n (o .closedSteps))) [
+    | inr y ↦ rw (opens n (omega arith), y)
+    | inl y ↦ rw (opens n (omega arith), y) (some-open n (omega arith) (rw y at h))
+  ]
+
+  pub accepted-fault : (c : Call) → accepted p o c ≡ true → callFault s c ≡ none
+  unfolding accepted callFault firstFault
+  accepted-fault (submitting e) h = rw (coh, lt-leb (eventCount (s .plan)) e (omega (arith, ltb-true e (eventCount p) h, same-events sh)))
+  accepted-fault (closing j) h =
+      let a = and-left (hasEvent p j) (not (among j (o .closedSteps))) h in
+      let b = not-true (among j (o .closedSteps)) (and-right (hasEvent p j) (not (among j (o .closedSteps))) h) in
+      rw (coh, hasEvent-same j, a, k .agrees .closed j (step-bound j a), b)
+  accepted-fault finishing h = rw (coh, any-none 8 (λ j. hasEvent (s .plan) j && not (closedAt s j)) (λ j l. opens j l ∙ ap not (all-at 8 (λ j. not (hasEvent p j) || among j (o .closedSteps)) h j l)))
+
+  pub refused-fault : (c : Call) → accepted p o c ≡ false → (f : Fault) × (callFault s c ≡ some f)
+  unfolding accepted callFault firstFault
+  refused-fault (submitting e) h = (Unknown, rw (coh, le-leb (eventCount (s .plan)) e (omega (arith, ltb-false e (eventCount p) h, same-events sh))))
+  refused-fault (closing j) h = go (hasEvent p j) refl
+    where
+      go : (b : Bool) → hasEvent p j ≡ b → (f : Fault) × (callFault s (closing j) ≡ some f)
+      go false q = (Unknown, rw (coh, hasEvent-same j, q))
+      go true q = (AlreadyClosed, rw (coh, hasEvent-same j, q, k .agrees .closed j (step-bound j q), borrow.Author.Tests.not-false (among j (o .closedSteps)) (rw q at h)))
+  refused-fault finishing h = (NotClosed, rw (coh, some-open 8 (omega arith) h))
+
+  -- an accepted call
+  at-accept : (c : Call) → accepted p o c ≡ true → Step p (shows p o c (lines (accept s c .state))) s (accept s c .state)
+  unfolding accept accepted
+  at-accept (submitting e) h = go (isOpen (fateOf s e)) refl
+    where
+      lt : e < eventCount p
+      lt = ltb-true e (eventCount p) h
+
+      go : (b : Bool) → isOpen (fateOf s e) ≡ b → Step p (shows p o (submitting e) (lines (submit s e))) s (submit s e)
+      go true q = at-submit e lt q
+      go false q = subst (λ t. Step p (shows p o (submitting e) (lines t)) s t) (sym (submit-same s e q)) (at-same e q)
+  at-accept (closing j) h = at-close j (step-bound j (and-left (hasEvent p j) (not (among j (o .closedSteps))) h))
+  at-accept finishing h = at-finish h
+
+  -- any call
+  step : (c : Call) → Step p (observe p o c (lines (call s c .state))) s (call s c .state)
+  step c = go (accepted p o c) refl
+    where
+      to : (t : State) (v : Observed) → call s c .state ≡ t → observe p o c (lines t) ≡ v → Step p v s t → Step p (observe p o c (lines (call s c .state))) s (call s c .state)
+      to t v a b w = subst (λ x. Step p (observe p o c (lines x)) s x) (sym a) (subst (λ x. Step p x s t) (sym b) w)
+
+      go : (b : Bool) → accepted p o c ≡ b → Step p (observe p o c (lines (call s c .state))) s (call s c .state)
+      go true h = to (accept s c .state) (shows p o c (lines (accept s c .state))) (ap (λ (y : Reply). y .state) (call-accept s c (accepted-fault c h))) (observe-yes p o c (lines (accept s c .state)) h) (at-accept c h)
+      go false h = let f = refused-fault c h in to s (onlyHistory o (lines s)) (ap (λ (y : Reply). y .state) (call-fault s c (f .0) (f .1))) (observe-no p o c (lines s) h) (record { at = at-kept k; extends = ([], sym (append-nil (lines s))) })
+
+  -- the answer is a refusal exactly where the call is not accepted
+  pub answer-accepted : (c : Call) → isTurnedDown (call s c .answer) ≡ not (accepted p o c)
+  answer-accepted c = go (accepted p o c) refl
+    where
+      go : (b : Bool) → accepted p o c ≡ b → isTurnedDown (call s c .answer) ≡ not (accepted p o c)
+      go true h = call-taken s c (accepted-fault c h) ∙ sym (ap not h)
+      go false h = let f = refused-fault c h in ap isTurnedDown (fault-answer s c (f .0) (f .1)) ∙ sym (ap not h)
+
+-- a whole list
+pub at-after : {p : Plan} → Sound p → (cs : List Call) {o : Observed} {s : State} → At p o s → At p (observeAll p o (seen scheduler s cs)) (after scheduler s cs)
+unfolding observeAll seen after
+at-after sd [] k = k
+at-after sd (c ∷ cs) k = at-after sd cs (step sd k c .at)
+
+grows-after : {p : Plan} → Sound p → (cs : List Call) {o : Observed} {s : State} → At p o s → Grows (lines s) (seen scheduler s cs)
+unfolding seen
+grows-after sd [] k = tt
+grows-after sd (c ∷ cs) k = (step sd k c .extends, grows-after sd cs (step sd k c .at))
+
+one-short : (b : Bool) (x : Fate) → length (fateIf b x) ≤ 1
+one-short true x = omega arith
+one-short false x = omega arith
+
+module _ {p : Plan} {o : Observed} {s : State} (sd : Sound p) (k : At p o s) where
+  bk : Books p s
+  bk = k .good .books
+
+  unrecorded : (i : ℕ) → i < ruleCount p → among i (o .recorded) ≡ false → brokenAt s i ≡ false
+  unrecorded i l m = k .agrees .recorded i (omega (arith, sd .few-rules)) ∙ m
+
+  holding-all : (i : ℕ) → i < ruleCount p → among i (o .recorded) ≡ false → holds (o .history) (ruleAt p i) ≡ true
+  holding-all i l m = ap (λ h. holds h (ruleAt p i)) (k .agrees .history) ∙ rule-holds sd (k .good) i l (unrecorded i l m)
+
+  kept-all : (i : ℕ) → i < ruleCount p → unbreakable p (ruleAt p i) ≡ true → broken p o i ≡ false
+  unfolding broken
+  kept-all i l u =
+      let m : among i (o .recorded) ≡ false = elim (either (among i (o .recorded))) [ inr z ↦ z | inl z ↦ absurd (clash u (k .strict .weak i l (k .agrees .recorded i (omega (arith, sd .few-rules)) ∙ z))) ] in
+      or-both (among i (o .recorded)) (not (holds (o .history) (ruleAt p i))) m (ap not (holding-all i l m))
+
+  pub at-holds : Holds p o s
+  at-holds = record {
+    once = λ e. subst (λ f. length f ≤ 1) (sym (fates-observed bk (k .tidy) (k .agrees) e)) (one-short (isSettled (fateOf s e)) (fateOf s e));
+    kept = kept-all;
+    holding = holding-all;
+    waiting = λ e q h v. k .rest e q (sym (fate-observed bk (k .tidy) (k .agrees) e) ∙ h) (subst (λ t. Viable t e q) (sym (shown bk (k .tidy) (k .agrees))) v);
+    settled = λ w e l. ap isSettled (fate-observed bk (k .tidy) (k .agrees) e) ∙ k .finished w e l;
+    shown = shown bk (k .tidy) (k .agrees);
+    coherent-end = good-coherent sd (k .good);
+  }
+
+-- the invariant after any list on an admitted sheet
+pub at-list : (bytes : List ℕ) (s : State) (cs : List Call) → readSheet bytes ≡ admitted s → At (s .plan) (observeAll (s .plan) nothingYet (seen scheduler s cs)) (after scheduler s cs)
+at-list bytes s cs read =
+    let sd = sheet-sound bytes s read in
+    at-after sd cs (subst (At (s .plan) nothingYet) (sym (sheet-first bytes s read)) (at-first (s .plan) sd))
+
+-- demand 3
+pub demand3 : Keeps scheduler
+demand3 bytes s cs read =
+    let sd = sheet-sound bytes s read in
+    let f = sheet-first bytes s read in
+    let k = subst (At (s .plan) nothingYet) (sym f) (at-first (s .plan) sd) in
+    record { claim = at-holds sd (at-after sd cs k); grows = subst (λ h. Grows h (seen scheduler s cs)) (sym (k .agrees .history)) (grows-after sd cs k) }
+
+-- in a list, the answer to a call is a refusal exactly where the call is not accepted
+pub answers-accepted : (bytes : List ℕ) (s : State) (cs : List Call) (c : Call) → readSheet bytes ≡ admitted s → isTurnedDown (call (after scheduler s cs) c .answer) ≡ not (accepted (s .plan) (observeAll (s .plan) nothingYet (seen scheduler s cs)) c)
+answers-accepted bytes s cs c read = answer-accepted (sheet-sound bytes s read) (at-list bytes s cs read) c

@@ -1,0 +1,13 @@
+pub mod Types
+pub mod Sound
+pub mod Fresh
+pub mod Decoded
+pub mod Books
+pub mod Keep
+pub mod Good
+pub mod Submit
+pub mod Coherent
+pub mod Passes
+pub mod Shown
+pub mod Demands
+pub mod Worthless
