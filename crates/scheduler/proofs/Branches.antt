@@ -5,7 +5,7 @@ use mathlib.Core.List.{List, [], _∷_}
 use mathlib.Core.Option.{Option, none, some}
 use mathlib.Core.Path.{_≡_, refl}
 use lib.Dec.{eqb}
-use Rattle.scheduler.specs.Types.{Lapsed, Refused, State, Fault, TurnedDown}
+use Rattle.scheduler.specs.Prelude.{Lapsed, Refused, State, Fault, TurnedDown}
 use Rattle.scheduler.specs.Base.{lowest}
 use Rattle.scheduler.specs.State.{eventCount, stepOf, rejectable, delayable, fateOf, isOpen, isHeld, hold, settleAs}
 use Rattle.scheduler.specs.Orders.{chosen, doAll}

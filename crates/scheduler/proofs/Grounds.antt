@@ -7,7 +7,7 @@ use mathlib.Core.Logic.{_⊎_, inl, inr}
 use mathlib.Core.Option.{Option, none, some}
 use mathlib.Core.Path.{_≡_, refl, sym, _∙_, ap, subst}
 use lib.Dec.{eqb}
-use Rattle.scheduler.specs.Types.{Fate, Open, Held, Done, Refused, Lapsed, Plan, State, Fault}
+use Rattle.scheduler.specs.Prelude.{Fate, Open, Held, Done, Refused, Lapsed, Plan, State, Fault}
 use Rattle.scheduler.specs.State.{eventCount, ruleCount, stepOf, rejectable, delayable, fateOf, isOpen, hold, settleAs, shut}
 use Rattle.scheduler.specs.Orders.{First, chosen, doAll}
 use Rattle.scheduler.specs.Calls.{refuses, does, Turns, stay, turn, settleOnce, settle, strains, breakIf, recordBroken, doAlone, decide, submit, lapse, closeStep, refuseHeld, finish}

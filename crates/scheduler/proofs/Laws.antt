@@ -11,7 +11,7 @@ use mathlib.Core.Path.{_≡_, refl, sym, _∙_, ap}
 use lib.Dec.{ltb}
 use lib.ListN.{length, getD, set, take, length-set}
 use lib.Seq.{getD-set-same, getD-set-other, take-suc-set}
-use Rattle.scheduler.specs.Types.{Fate, Open, Held, Done, Refused, Lapsed, Plan, Standing, Entry, State}
+use Rattle.scheduler.specs.Prelude.{Fate, Open, Held, Done, Refused, Lapsed, Plan, Standing, Entry, State}
 use Rattle.scheduler.specs.Base.{readAt, storeAt}
 use Rattle.scheduler.specs.State.{blankStanding, blankEntry, fateOf, brokenAt, closedAt, lineCount, lines, isOpen, isHeld, hold, settleAs, shut, breakRule}
 use Rattle.scheduler.proofs.Tests.{clash}

@@ -4,3 +4,5 @@ pub mod Branches
 pub mod Searching
 pub mod Settling
 pub mod Grounds
+pub mod Budgets
+pub mod Cases

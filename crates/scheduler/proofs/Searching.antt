@@ -10,7 +10,7 @@ use mathlib.Core.Option.{Option, none, some, Option·map}
 use mathlib.Core.Path.{_≡_, refl, sym, _∙_, ap, subst}
 use lib.Dec.{eqb}
 use lib.ListN.{length}
-use Rattle.scheduler.specs.Types.{Fate, Open, Held, Done, Refused, Lapsed, Event, Plan, State}
+use Rattle.scheduler.specs.Prelude.{Fate, Open, Held, Done, Refused, Lapsed, Event, Plan, State}
 use Rattle.scheduler.specs.State.{eventCount, eventAt, blankEvent, holdsBit, fateOf, forcible, isOpen, isHeld, isSettled, settleAs}
 use Rattle.scheduler.specs.Rules.{forbidden, owing}
 use Rattle.scheduler.specs.Orders.{ready, mayDo, doAll, Runs, Different, Viable, Ahead, First, orderOf, chosen, someOrder, hasViable}

@@ -1,10 +1,5 @@
 -- Tests over the numbers below a bound, the first number that gives something, and arrays read and written totally.
-use Prim.Native.Nat.{ℕ, zero, suc, _+_}
-use mathlib.Core.Bool.{Bool, true, false, _&&_, _||_, cond}
-use mathlib.Core.List.{List, [], _∷_}
-use mathlib.Core.Option.{Option, none, some}
-use lib.Dec.{eqb, ltb}
-use lib.ListN.{getD, set}
+use Rattle.scheduler.specs.Prelude.{ℕ, zero, suc, _+_, Bool, true, false, _&&_, _||_, cond, List, [], _∷_, Option, none, some, eqb, ltb, getD, set}
 
 -- some i < n passes the test
 unfoldable pub anyBelow : ℕ → (ℕ → Bool) → Bool

@@ -1,11 +1,5 @@
 -- The calls: settling, hand in, close a step, wind up.
-use Prim.Native.Nat.{ℕ, zero, suc, _<_}
-use mathlib.Core.Bool.{Bool, true, false, not, _&&_, _||_}
-use mathlib.Core.List.{List, [], _∷_}
-use mathlib.Core.Option.{Option, none, some, Option·map}
-use mathlib.Core.Path.{_≡_}
-use lib.Dec.{eqb}
-use Rattle.scheduler.specs.Types.{Held, Done, Refused, Lapsed, State}
+use Rattle.scheduler.specs.Prelude.{ℕ, zero, suc, _<_, Bool, true, false, not, _&&_, _||_, List, [], _∷_, Option, none, some, Option·map, _≡_, eqb, Held, Done, Refused, Lapsed, State}
 use Rattle.scheduler.specs.Base.{anyBelow, firstOf, when, orElse, lowest}
 use Rattle.scheduler.specs.State.{eventCount, ruleCount, stepOf, ruleAt, rejectable, delayable, fateOf, isOpen, isHeld, hold, settleAs, shut, breakRule}
 use Rattle.scheduler.specs.Rules.{stands, forbids, owes, barred}

@@ -1,10 +1,5 @@
 -- When a call is turned down, and what it answers.
-use Prim.Native.Nat.{ℕ}
-use mathlib.Core.Bool.{Bool, true, false, not, _&&_, _||_}
-use mathlib.Core.List.{List, [], _∷_}
-use mathlib.Core.Option.{Option, none, some}
-use lib.Dec.{eqb, ltb, leb}
-use Rattle.scheduler.specs.Types.{Fate, Plan, Entry, State, Fault, Cut, BadKind, Full, BadStep, BadAttributes, BadNames, Unenforceable, Extra, Unknown, AlreadyClosed, NotClosed, Incoherent, Answer, Is, Made, TurnedDown}
+use Rattle.scheduler.specs.Prelude.{ℕ, Bool, true, false, not, _&&_, _||_, List, [], _∷_, Option, none, some, eqb, ltb, leb, Fate, Plan, Entry, State, Fault, Cut, BadKind, Full, BadStep, BadAttributes, BadNames, Unenforceable, Extra, Unknown, AlreadyClosed, NotClosed, Incoherent, Answer, Is, Made, TurnedDown}
 use Rattle.scheduler.specs.Base.{anyBelow, allBelow}
 use Rattle.scheduler.specs.State.{eventCount, ruleCount, stepOf, ruleAt, delayable, fateOf, brokenAt, closedAt, lineCount, lines, isOpen, isHeld, isSettled, sameFate}
 use Rattle.scheduler.specs.Rules.{soundEvent, soundRule, owes, fateIf, fatesIn, holds}
@@ -12,20 +7,7 @@ use Rattle.scheduler.specs.Calls.{submit, closeStep, finish}
 
 -- the number that the table gives
 abbrev pub faultNumber : Fault → ℕ
-faultNumber f = elim f [
-  | Cut ↦ 1
-  | BadKind ↦ 2
-  | Full ↦ 3
-  | BadStep ↦ 4
-  | BadAttributes ↦ 5
-  | BadNames ↦ 6
-  | Unenforceable ↦ 7
-  | Extra ↦ 8
-  | Unknown ↦ 9
-  | AlreadyClosed ↦ 10
-  | NotClosed ↦ 11
-  | Incoherent ↦ 12
-]
+faultNumber f = elim f [ Cut ↦ 1 | BadKind ↦ 2 | Full ↦ 3 | BadStep ↦ 4 | BadAttributes ↦ 5 | BadNames ↦ 6 | Unenforceable ↦ 7 | Extra ↦ 8 | Unknown ↦ 9 | AlreadyClosed ↦ 10 | NotClosed ↦ 11 | Incoherent ↦ 12 ]
 
 -- an answer's number: the fault's where the call is turned down, and 0 where it is taken
 abbrev pub answerNumber : Answer → ℕ

@@ -1,6 +1,7 @@
-pub mod Types
+pub mod Prelude
 pub mod Base
 pub mod State
+pub mod Readers
 pub mod Rules
 pub mod Orders
 pub mod Calls

@@ -1,13 +1,5 @@
 -- Viable orders, and the chosen one.
-use Prim.Native.Nat.{ℕ, zero, suc, _≤_, _<_}
-use mathlib.Core.Bool.{Bool, true, false, not, _&&_, _||_}
-use mathlib.Core.List.{List, [], _∷_, List·Memᴰ}
-use mathlib.Core.Logic.{_⊎_}
-use mathlib.Core.Option.{Option, none, some, Option·map}
-use mathlib.Core.Path.{_≡_}
-use lib.Dec.{eqb}
-use lib.ListN.{length}
-use Rattle.scheduler.specs.Types.{Done, State}
+use Rattle.scheduler.specs.Prelude.{ℕ, zero, suc, _≤_, _<_, Bool, true, false, not, _&&_, _||_, List, [], _∷_, List·Memᴰ, _⊎_, Option, none, some, Option·map, _≡_, eqb, length, Done, State}
 use Rattle.scheduler.specs.Base.{firstOf, when, anyBelow}
 use Rattle.scheduler.specs.State.{eventCount, fateOf, forcible, isOpen, isHeld, settleAs}
 use Rattle.scheduler.specs.Rules.{forbidden, owing}

@@ -1,9 +1,5 @@
 -- Rules: which a sheet takes, what they forbid and owe, and when they hold of a history.
-use Prim.Native.Nat.{ℕ}
-use mathlib.Core.Bool.{Bool, true, false, not, _&&_, _||_}
-use mathlib.Core.List.{List, [], _∷_, _++_}
-use lib.Dec.{eqb, ltb}
-use Rattle.scheduler.specs.Types.{Fate, Rule, Order, Need, Conditional, Plan, Entry, State}
+use Rattle.scheduler.specs.Prelude.{ℕ, Bool, true, false, not, _&&_, _||_, List, [], _∷_, _++_, eqb, ltb, Fate, Rule, Order, Need, Conditional, Plan, Entry, State}
 use Rattle.scheduler.specs.Base.{anyBelow}
 use Rattle.scheduler.specs.State.{eventCount, ruleCount, stepOf, attributesOf, ruleAt, holdsBit, forcible, rejectable, delayable, fateOf, brokenAt, isDone, isGone, isSettled}
 

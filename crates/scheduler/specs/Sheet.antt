@@ -1,11 +1,5 @@
 -- Reading a sheet.
-use Prim.Native.Nat.{ℕ, zero, suc, _+_}
-use mathlib.Core.Bool.{Bool, true, false, not, _&&_, _||_}
-use mathlib.Core.List.{List, [], _∷_}
-use mathlib.Core.Option.{Option, none, some}
-use lib.Dec.{eqb, ltb, leb}
-use lib.ListN.{getD, length}
-use Rattle.scheduler.specs.Types.{Rule, Order, Need, Conditional, Plan, State, Fault, Cut, BadKind, Full, BadStep, BadAttributes, BadNames, Unenforceable, Extra, Verdict, Admitted, Faulty, Reading}
+use Rattle.scheduler.specs.Prelude.{ℕ, zero, suc, _+_, Bool, true, false, not, _&&_, _||_, List, [], _∷_, Option, none, some, eqb, ltb, leb, getD, length, Rule, Order, Need, Conditional, Plan, State, Fault, Cut, BadKind, Full, BadStep, BadAttributes, BadNames, Unenforceable, Extra, Verdict, Admitted, Faulty, Reading}
 use Rattle.scheduler.specs.Base.{storeAt}
 use Rattle.scheduler.specs.State.{eventCount, ruleCount, emptyPlan, firstState, emptyState}
 use Rattle.scheduler.specs.Rules.{badStep, badAttributes, named, enforceable}

@@ -1,10 +1,5 @@
 -- The plan and the state: fates, attributes, and how a state is read and written.
-use Prim.Native.Nat.{ℕ, _+_, _/_, _%_}
-use mathlib.Core.Bool.{Bool, true, false, not, _&&_, _||_, cond}
-use mathlib.Core.List.{List, [], _∷_}
-use lib.Dec.{eqb, ltb}
-use lib.ListN.{take, replicate}
-use Rattle.scheduler.specs.Types.{Fate, Open, Held, Done, Refused, Lapsed, Event, Rule, Order, RuleLine, Plan, Standing, Entry, State}
+use Rattle.scheduler.specs.Prelude.{ℕ, _+_, _/_, _%_, Bool, true, false, not, _&&_, _||_, cond, List, [], _∷_, eqb, ltb, take, replicate, Fate, Open, Held, Done, Refused, Lapsed, Event, Rule, Order, RuleLine, Plan, Standing, Entry, State}
 use Rattle.scheduler.specs.Base.{readAt, storeAt}
 
 -- "An event is open (not handed in), held, done, refused or lapsed. The last three are settled"

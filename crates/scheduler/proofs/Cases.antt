@@ -1,0 +1,330 @@
+-- The marked cases of document 01 and further rows, in one joint proof over a list, by computation. Bytes are written in decimal.
+use Prim.Native.Nat.{ℕ, zero, suc}
+use mathlib.Core.Bool.{Bool, true, false}
+use mathlib.Core.List.{List, [], _∷_, _++_, map}
+use mathlib.Core.Path.{_≡_, refl}
+use lib.ListN.{take, replicate}
+use Rattle.scheduler.specs.Prelude.{Fate, Open, Held, Done, Refused, Lapsed, Rule, Order, Need, Conditional, Plan, State, Answer, Is, Made, TurnedDown, Fault, Cut, BadKind, Full, BadStep, BadAttributes, BadNames, Unenforceable, Extra, Unknown, AlreadyClosed, NotClosed, Incoherent, Admitted, Faulty}
+use Rattle.scheduler.specs.Base.{anyBelow, allBelow, countBelow, firstOf, tabulate, lowest}
+use Rattle.scheduler.specs.State.{eventCount, ruleCount, emptyPlan, firstState, emptyState, lines, hold, settleAs, shut, breakRule}
+use Rattle.scheduler.specs.Rules.{named, enforceable, soundEvent, soundRule, bars, makesWait, forbids, owes, barred, forbidden, owing, fatesIn, anyDone, doneIn, doneInTurn, holds}
+use Rattle.scheduler.specs.Orders.{ready, mayDo, doAll, orderOf, chosen}
+use Rattle.scheduler.specs.Calls.{toRefuse, toDo, settleOnce, settleUpTo, settle, strains, recordBroken, doAlone, decide, submit, lapse, closeStep, refuseHeld, finish}
+use Rattle.scheduler.specs.Faults.{faultNumber, firstFault, declaredOnly, sameFates, listed, coherentEvent, coherentRule, coherent, Call, submitting, closing, finishing, hasEvent, callFault, accept, call}
+use Rattle.scheduler.specs.Sheet.{ruleOf, addEvent, addRule, addEvents, declare, recordFault, ending, readFrom, readPlan, readSheet}
+use Rattle.scheduler.specs.Prelude.{FateRead, EventRead, RuleRead, EntryRead, Mark}
+use Rattle.scheduler.specs.Readers.{fateRead, eventRead, ruleRead, lineRead, closedRead, brokenRead}
+use Rattle.scheduler.specs.Runner.{Decoded, decodeFrom, decode, stateAfter, turnedDown, runOn, runOf, digits, decimal, historyLines, report}
+
+-- what a sheet and a list of calls come to: the sheet's fault and its offset, or the answers, the history, and for each rule whether it is recorded as broken
+pub data Given : Type 0 where
+  rejected : ℕ → ℕ → Given
+  ran : List Answer → List (ℕ × Fate) → List Bool → Given
+
+unfoldable pub answersOf : State → List Call → List Answer
+answersOf s [] = []
+answersOf s (c ∷ cs) = call s c .answer ∷ answersOf (call s c .state) cs
+
+abbrev pub givenBy : State → List Answer → Given
+givenBy s answers = ran answers (map (λ l. (l .event, l .fate)) (lines s)) (take (ruleCount (s .plan)) (s .broken))
+
+unfoldable pub given : List ℕ → List Call → Given
+given b cs = let r = readSheet b in elim (r .verdict) [ Faulty f at ↦ rejected (faultNumber f) at | Admitted ↦ givenBy (stateAfter (r .state) cs) (answersOf (r .state) cs) ]
+
+-- a row: the sheet, the calls, what they give
+abbrev pub Case : Type 0
+Case = List ℕ × List Call × Given
+
+abbrev pub sheetA : List ℕ
+sheetA = 1 ∷ 0 ∷ 6 ∷ 1 ∷ 1 ∷ 6 ∷ 2 ∷ 0 ∷ 1 ∷ 3 ∷ 0 ∷ 1 ∷ 5 ∷ []
+
+abbrev pub sheetC : List ℕ
+sheetC = 1 ∷ 0 ∷ 6 ∷ 1 ∷ 1 ∷ 6 ∷ 2 ∷ 0 ∷ 1 ∷ 5 ∷ []
+
+abbrev pub sheetD : List ℕ
+sheetD = 1 ∷ 0 ∷ 1 ∷ 1 ∷ 1 ∷ 1 ∷ 3 ∷ 0 ∷ 1 ∷ 5 ∷ []
+
+abbrev pub sheetF : List ℕ
+sheetF = 1 ∷ 0 ∷ 1 ∷ 1 ∷ 1 ∷ 6 ∷ 3 ∷ 0 ∷ 1 ∷ 5 ∷ []
+
+abbrev pub sheetG : List ℕ
+sheetG = 1 ∷ 0 ∷ 6 ∷ 1 ∷ 0 ∷ 0 ∷ 2 ∷ 0 ∷ 1 ∷ 5 ∷ []
+
+-- b, n times
+abbrev pub times : ℕ → List ℕ → List ℕ
+times zero b = []
+times (suc n) b = b ++ times n b
+
+-- 16 events, and no end; 2 events and 16 rules, and no end
+abbrev pub sixteenEvents : List ℕ
+sixteenEvents = 6 ∷ 0 ∷ 6 ∷ 1 ∷ 6 ∷ 2 ∷ 6 ∷ 3 ∷ []
+
+abbrev pub sixteenRules : List ℕ
+sixteenRules = (1 ∷ 0 ∷ 6 ∷ 1 ∷ 0 ∷ 6 ∷ []) ++ times 16 (2 ∷ 0 ∷ 1 ∷ [])
+
+-- orders 0, 1 up to n - 1, n
+abbrev pub links : ℕ → List ℕ
+links zero = []
+links (suc n) = links n ++ (2 ∷ n ∷ suc n ∷ [])
+
+-- events 0 up to n of attributes 7 in a chain of orders; 0 needs n
+abbrev pub chain : ℕ → List ℕ
+chain n = times (suc n) (1 ∷ 0 ∷ 7 ∷ []) ++ (links n ++ (3 ∷ 0 ∷ n ∷ 5 ∷ []))
+
+abbrev pub cases : List Case
+cases =
+    -- A: 01 00 06 01 01 06 02 00 01 03 00 01 05
+    (sheetA, submitting 0 ∷ submitting 1 ∷ [], ran (Is Held ∷ Is Done ∷ []) ((0, Done) ∷ (1, Done) ∷ []) (false ∷ false ∷ []))
+    -- B
+    ∷ (sheetA, submitting 0 ∷ closing 1 ∷ [], ran (Is Held ∷ Made ∷ []) ((1, Lapsed) ∷ (0, Refused) ∷ []) (false ∷ false ∷ []))
+    -- C
+    ∷ (sheetC, submitting 1 ∷ closing 0 ∷ [], ran (Is Held ∷ Made ∷ []) ((0, Lapsed) ∷ (1, Done) ∷ []) (false ∷ []))
+    -- D
+    ∷ (sheetD, submitting 0 ∷ [], ran (Is Done ∷ []) ((0, Done) ∷ (1, Done) ∷ []) (false ∷ []))
+    -- E
+    ∷ (sheetD, closing 1 ∷ submitting 0 ∷ [], ran (Made ∷ Is Done ∷ []) ((1, Lapsed) ∷ (0, Done) ∷ []) (true ∷ []))
+    -- F: 01 00 01 01 01 06 03 00 01 05
+    ∷ (sheetF, [], rejected 7 6)
+    -- G
+    ∷ (sheetG, submitting 1 ∷ submitting 0 ∷ [], ran (Is Done ∷ Is Refused ∷ []) ((1, Done) ∷ (0, Refused) ∷ []) (false ∷ []))
+    -- H
+    ∷ (1 ∷ 0 ∷ 6 ∷ 1 ∷ 1 ∷ 6 ∷ 2 ∷ 0 ∷ 1 ∷ 2 ∷ 1 ∷ 0 ∷ 5 ∷ [], submitting 0 ∷ submitting 1 ∷ closing 0 ∷ closing 1 ∷ finishing ∷ [], ran (Is Held ∷ Is Held ∷ Made ∷ Made ∷ Made ∷ []) ((0, Refused) ∷ (1, Done) ∷ []) (false ∷ false ∷ []))
+    -- I
+    ∷ ([], [], rejected 1 0)
+    ∷ (5 ∷ [], [], ran [] [] [])
+    ∷ (5 ∷ 5 ∷ [], [], rejected 8 1)
+    ∷ (1 ∷ 0 ∷ 4 ∷ 5 ∷ [], [], rejected 5 0)
+    -- L
+    ∷ (1 ∷ 0 ∷ 6 ∷ 1 ∷ 1 ∷ 6 ∷ 1 ∷ 2 ∷ 6 ∷ 4 ∷ 0 ∷ 1 ∷ 2 ∷ 5 ∷ [], submitting 0 ∷ submitting 1 ∷ closing 2 ∷ [], ran (Is Done ∷ Is Held ∷ Made ∷ []) ((0, Done) ∷ (2, Lapsed) ∷ (1, Refused) ∷ []) (false ∷ []))
+    -- open events lapse lowest first
+    ∷ (1 ∷ 0 ∷ 6 ∷ 1 ∷ 0 ∷ 6 ∷ 5 ∷ [], closing 0 ∷ [], ran (Made ∷ []) ((0, Lapsed) ∷ (1, Lapsed) ∷ []) [])
+    -- orders 2, 0 and 2, 1: the lowest held event with a viable order is 0, by the order 2, 0
+    ∷ (1 ∷ 0 ∷ 6 ∷ 1 ∷ 0 ∷ 6 ∷ 1 ∷ 0 ∷ 6 ∷ 2 ∷ 2 ∷ 0 ∷ 2 ∷ 2 ∷ 1 ∷ 5 ∷ [], submitting 0 ∷ submitting 1 ∷ submitting 2 ∷ [], ran (Is Held ∷ Is Held ∷ Is Done ∷ []) ((2, Done) ∷ (0, Done) ∷ (1, Done) ∷ []) (false ∷ false ∷ []))
+    -- a forcible event that nobody needs is left open
+    ∷ (1 ∷ 0 ∷ 1 ∷ 1 ∷ 0 ∷ 6 ∷ 5 ∷ [], submitting 1 ∷ [], ran (Is Done ∷ []) ((1, Done) ∷ []) [])
+    -- the lowest held event goes first, by an order of two (0, 3), and not 1, which could go alone
+    ∷ (1 ∷ 0 ∷ 6 ∷ 1 ∷ 0 ∷ 6 ∷ 1 ∷ 1 ∷ 6 ∷ 1 ∷ 0 ∷ 1 ∷ 2 ∷ 2 ∷ 0 ∷ 2 ∷ 2 ∷ 1 ∷ 3 ∷ 0 ∷ 3 ∷ 5 ∷ [], submitting 0 ∷ submitting 1 ∷ closing 1 ∷ [], ran (Is Held ∷ Is Held ∷ Made ∷ []) ((2, Lapsed) ∷ (0, Done) ∷ (3, Done) ∷ (1, Done) ∷ []) (false ∷ false ∷ false ∷ []))
+    -- a barred event (1, by need 1, 3) is refused before 0 is done
+    ∷ (1 ∷ 0 ∷ 6 ∷ 1 ∷ 0 ∷ 6 ∷ 1 ∷ 1 ∷ 6 ∷ 1 ∷ 1 ∷ 6 ∷ 2 ∷ 2 ∷ 0 ∷ 3 ∷ 1 ∷ 3 ∷ 5 ∷ [], submitting 0 ∷ submitting 1 ∷ closing 1 ∷ [], ran (Is Held ∷ Is Held ∷ Made ∷ []) ((2, Lapsed) ∷ (3, Lapsed) ∷ (1, Refused) ∷ (0, Done) ∷ []) (false ∷ false ∷ []))
+    -- two held triggers are not barred: order 3 before both, conditional 0, 1, 2
+    ∷ (1 ∷ 0 ∷ 6 ∷ 1 ∷ 0 ∷ 6 ∷ 1 ∷ 1 ∷ 6 ∷ 1 ∷ 0 ∷ 6 ∷ 2 ∷ 3 ∷ 0 ∷ 2 ∷ 3 ∷ 1 ∷ 4 ∷ 0 ∷ 1 ∷ 2 ∷ 5 ∷ [], submitting 0 ∷ submitting 1 ∷ closing 1 ∷ submitting 3 ∷ [], ran (Is Held ∷ Is Held ∷ Made ∷ Is Done ∷ []) ((2, Lapsed) ∷ (3, Done) ∷ (0, Done) ∷ (1, Refused) ∷ []) (false ∷ false ∷ false ∷ []))
+    -- an event that is not delayable goes by its own order before anything is settled: 1, 0, where A has 0, 1
+    ∷ (1 ∷ 0 ∷ 6 ∷ 1 ∷ 0 ∷ 0 ∷ 3 ∷ 0 ∷ 1 ∷ 5 ∷ [], submitting 0 ∷ submitting 1 ∷ [], ran (Is Held ∷ Is Done ∷ []) ((1, Done) ∷ (0, Done) ∷ []) (false ∷ []))
+    -- a forced b that is delayable waits too (need 0, 1, order 2, 1): 0 is done alone. Its recorded rule owes no more: 3 is done
+    ∷ (1 ∷ 0 ∷ 0 ∷ 1 ∷ 0 ∷ 7 ∷ 1 ∷ 0 ∷ 6 ∷ 1 ∷ 0 ∷ 6 ∷ 3 ∷ 0 ∷ 1 ∷ 2 ∷ 2 ∷ 1 ∷ 5 ∷ [], submitting 0 ∷ submitting 3 ∷ [], ran (Is Done ∷ Is Done ∷ []) ((0, Done) ∷ (3, Done) ∷ []) (true ∷ false ∷ []))
+    -- the same: recorded still, though 1 is done at last and the rule holds again
+    ∷ (1 ∷ 0 ∷ 0 ∷ 1 ∷ 0 ∷ 7 ∷ 1 ∷ 0 ∷ 6 ∷ 1 ∷ 0 ∷ 6 ∷ 3 ∷ 0 ∷ 1 ∷ 2 ∷ 2 ∷ 1 ∷ 5 ∷ [], submitting 0 ∷ submitting 2 ∷ submitting 1 ∷ [], ran (Is Done ∷ Is Done ∷ Is Done ∷ []) ((0, Done) ∷ (2, Done) ∷ (1, Done) ∷ []) (true ∷ false ∷ []))
+    -- a b that is not delayable never waits (order 0, 1), also where it is forced (need 2, 1)
+    ∷ (1 ∷ 0 ∷ 6 ∷ 1 ∷ 0 ∷ 3 ∷ 1 ∷ 0 ∷ 6 ∷ 2 ∷ 0 ∷ 1 ∷ 3 ∷ 2 ∷ 1 ∷ 5 ∷ [], submitting 2 ∷ submitting 0 ∷ [], ran (Is Done ∷ Is Refused ∷ []) ((1, Done) ∷ (2, Done) ∷ (0, Refused) ∷ []) (false ∷ false ∷ []))
+    -- a conditional of which a alone is rejectable: a is refused and not done alone, b is done alone
+    ∷ (1 ∷ 0 ∷ 2 ∷ 1 ∷ 0 ∷ 0 ∷ 1 ∷ 1 ∷ 6 ∷ 4 ∷ 0 ∷ 1 ∷ 2 ∷ 5 ∷ [], submitting 1 ∷ closing 1 ∷ submitting 0 ∷ [], ran (Is Done ∷ Made ∷ Is Refused ∷ []) ((1, Done) ∷ (2, Lapsed) ∷ (0, Refused) ∷ []) (false ∷ []))
+    ∷ (1 ∷ 0 ∷ 2 ∷ 1 ∷ 0 ∷ 0 ∷ 1 ∷ 1 ∷ 6 ∷ 4 ∷ 0 ∷ 1 ∷ 2 ∷ 5 ∷ [], submitting 0 ∷ closing 1 ∷ submitting 1 ∷ [], ran (Is Done ∷ Made ∷ Is Done ∷ []) ((0, Done) ∷ (2, Lapsed) ∷ (1, Done) ∷ []) (true ∷ []))
+    -- settling after a refused hand-in: 1 waited for 0
+    ∷ (1 ∷ 0 ∷ 2 ∷ 1 ∷ 0 ∷ 6 ∷ 1 ∷ 0 ∷ 6 ∷ 3 ∷ 0 ∷ 2 ∷ 2 ∷ 0 ∷ 1 ∷ 5 ∷ [], submitting 1 ∷ submitting 0 ∷ [], ran (Is Held ∷ Is Refused ∷ []) ((0, Refused) ∷ (1, Done) ∷ []) (false ∷ false ∷ []))
+    -- a rule that neither forbade nor owed is not recorded
+    ∷ (1 ∷ 0 ∷ 0 ∷ 1 ∷ 1 ∷ 1 ∷ 1 ∷ 0 ∷ 6 ∷ 3 ∷ 0 ∷ 1 ∷ 4 ∷ 0 ∷ 2 ∷ 1 ∷ 5 ∷ [], closing 1 ∷ submitting 0 ∷ [], ran (Made ∷ Is Done ∷ []) ((1, Lapsed) ∷ (0, Done) ∷ []) (true ∷ false ∷ []))
+    -- a need's b that is held is still owed: 1 waits for 2 (order 2, 1), so 0 (need 0, 1) is held, and goes by the order 0, 2, 1
+    ∷ (1 ∷ 0 ∷ 6 ∷ 1 ∷ 0 ∷ 6 ∷ 1 ∷ 0 ∷ 6 ∷ 2 ∷ 2 ∷ 1 ∷ 3 ∷ 0 ∷ 1 ∷ 5 ∷ [], submitting 1 ∷ submitting 0 ∷ submitting 2 ∷ [], ran (Is Held ∷ Is Held ∷ Is Done ∷ []) ((0, Done) ∷ (2, Done) ∷ (1, Done) ∷ []) (false ∷ false ∷ []))
+    -- so is a conditional's c: 2 waits for 3 (order 3, 2), so 1 (conditional 0, 1, 2) is held
+    ∷ (1 ∷ 0 ∷ 6 ∷ 1 ∷ 0 ∷ 6 ∷ 1 ∷ 0 ∷ 6 ∷ 1 ∷ 0 ∷ 6 ∷ 2 ∷ 3 ∷ 2 ∷ 4 ∷ 0 ∷ 1 ∷ 2 ∷ 5 ∷ [], submitting 2 ∷ submitting 0 ∷ submitting 1 ∷ submitting 3 ∷ [], ran (Is Held ∷ Is Done ∷ Is Held ∷ Is Done ∷ []) ((0, Done) ∷ (1, Done) ∷ (3, Done) ∷ (2, Done) ∷ []) (false ∷ false ∷ []))
+    -- an order waits for an a that is held: 0 (need 0, 2) is held, so 1 (order 0, 1) is held too
+    ∷ (1 ∷ 0 ∷ 6 ∷ 1 ∷ 0 ∷ 6 ∷ 1 ∷ 0 ∷ 6 ∷ 2 ∷ 0 ∷ 1 ∷ 3 ∷ 0 ∷ 2 ∷ 5 ∷ [], submitting 0 ∷ submitting 1 ∷ submitting 2 ∷ [], ran (Is Held ∷ Is Held ∷ Is Done ∷ []) ((0, Done) ∷ (2, Done) ∷ (1, Done) ∷ []) (false ∷ false ∷ []))
+    -- an order of six is the longest: a chain of six is done by force, and of a chain of seven nothing is done
+    ∷ (chain 5, submitting 0 ∷ [], ran (Is Done ∷ []) ((0, Done) ∷ (1, Done) ∷ (2, Done) ∷ (3, Done) ∷ (4, Done) ∷ (5, Done) ∷ []) (replicate 6 false))
+    ∷ (chain 6, submitting 0 ∷ [], ran (Is Held ∷ []) [] (replicate 7 false))
+    -- handed in again: the fate is the answer, and nothing changes
+    ∷ (sheetA, submitting 0 ∷ submitting 0 ∷ submitting 1 ∷ submitting 0 ∷ [], ran (Is Held ∷ Is Held ∷ Is Done ∷ Is Done ∷ []) ((0, Done) ∷ (1, Done) ∷ []) (false ∷ false ∷ []))
+    ∷ (sheetG, submitting 1 ∷ submitting 0 ∷ submitting 0 ∷ [], ran (Is Done ∷ Is Refused ∷ Is Refused ∷ []) ((1, Done) ∷ (0, Refused) ∷ []) (false ∷ []))
+    -- numbers 9, 10 and 11, and an event of a closed step
+    ∷ (sheetA, closing 8 ∷ closing 2 ∷ closing 0 ∷ closing 0 ∷ finishing ∷ submitting 2 ∷ submitting 0 ∷ [], ran (TurnedDown Unknown ∷ TurnedDown Unknown ∷ Made ∷ TurnedDown AlreadyClosed ∷ TurnedDown NotClosed ∷ TurnedDown Unknown ∷ Is Lapsed ∷ []) ((0, Lapsed) ∷ []) (false ∷ false ∷ []))
+    -- a plan without events winds up, and again
+    ∷ (5 ∷ [], submitting 0 ∷ closing 0 ∷ finishing ∷ finishing ∷ [], ran (TurnedDown Unknown ∷ TurnedDown Unknown ∷ Made ∷ Made ∷ []) [] [])
+    -- 1: bytes end inside a record, and before kind 5 (at the sheet's length)
+    ∷ (6 ∷ [], [], rejected 1 0)
+    ∷ (1 ∷ 0 ∷ 6 ∷ 4 ∷ 0 ∷ 1 ∷ [], [], rejected 1 3)
+    ∷ (6 ∷ 0 ∷ [], [], rejected 1 2)
+    -- 2: kind 0 and above 6, also as the last byte
+    ∷ (0 ∷ 5 ∷ [], [], rejected 2 0)
+    ∷ (6 ∷ 0 ∷ 7 ∷ [], [], rejected 2 2)
+    -- 3: the 17th event, by kinds 1 and 6, and the 17th rule; before its step or names are looked at, and not where it is cut
+    ∷ (sixteenEvents ++ (5 ∷ []), [], ran [] [] [])
+    ∷ (sixteenEvents ++ (1 ∷ 9 ∷ 9 ∷ []), [], rejected 3 8)
+    ∷ (sixteenEvents ++ (1 ∷ 9 ∷ []), [], rejected 1 8)
+    ∷ (1 ∷ 0 ∷ 0 ∷ sixteenEvents, [], rejected 3 9)
+    ∷ (sixteenRules ++ (5 ∷ []), [], ran [] [] (replicate 16 false))
+    ∷ (sixteenRules ++ (3 ∷ 9 ∷ 9 ∷ []), [], rejected 3 54)
+    -- 4: a step above 7, before the attributes
+    ∷ (6 ∷ 8 ∷ [], [], rejected 4 0)
+    ∷ (1 ∷ 8 ∷ 255 ∷ [], [], rejected 4 0)
+    -- 5: attributes above 7, or delayable without rejectable
+    ∷ (1 ∷ 0 ∷ 0 ∷ 1 ∷ 1 ∷ 1 ∷ 1 ∷ 2 ∷ 2 ∷ 1 ∷ 3 ∷ 3 ∷ 1 ∷ 6 ∷ 6 ∷ 1 ∷ 7 ∷ 7 ∷ 5 ∷ [], [], ran [] [] [])
+    ∷ (1 ∷ 0 ∷ 5 ∷ [], [], rejected 5 0)
+    ∷ (6 ∷ 0 ∷ 1 ∷ 0 ∷ 8 ∷ [], [], rejected 5 2)
+    -- 6: an event declared only below, and one event twice; before 7
+    ∷ (1 ∷ 0 ∷ 6 ∷ 2 ∷ 0 ∷ 1 ∷ 1 ∷ 0 ∷ 6 ∷ 5 ∷ [], [], rejected 6 3)
+    ∷ (1 ∷ 0 ∷ 6 ∷ 2 ∷ 0 ∷ 0 ∷ 5 ∷ [], [], rejected 6 3)
+    ∷ (1 ∷ 0 ∷ 7 ∷ 3 ∷ 0 ∷ 0 ∷ 5 ∷ [], [], rejected 6 3)
+    ∷ (6 ∷ 0 ∷ 4 ∷ 0 ∷ 0 ∷ 2 ∷ 5 ∷ [], [], rejected 6 2)
+    ∷ (6 ∷ 0 ∷ 4 ∷ 0 ∷ 2 ∷ 0 ∷ 5 ∷ [], [], rejected 6 2)
+    ∷ (6 ∷ 0 ∷ 4 ∷ 0 ∷ 2 ∷ 2 ∷ 5 ∷ [], [], rejected 6 2)
+    ∷ (1 ∷ 0 ∷ 1 ∷ 3 ∷ 0 ∷ 1 ∷ 5 ∷ [], [], rejected 6 3)
+    -- 7: order with b delayable; order with b rejectable alone; conditional with a, b or c, and with none
+    ∷ (1 ∷ 0 ∷ 0 ∷ 1 ∷ 0 ∷ 6 ∷ 2 ∷ 0 ∷ 1 ∷ 5 ∷ [], [], ran [] [] (false ∷ []))
+    ∷ (1 ∷ 0 ∷ 1 ∷ 1 ∷ 0 ∷ 2 ∷ 2 ∷ 0 ∷ 1 ∷ 5 ∷ [], [], rejected 7 6)
+    ∷ (1 ∷ 0 ∷ 2 ∷ 1 ∷ 0 ∷ 0 ∷ 1 ∷ 0 ∷ 0 ∷ 4 ∷ 0 ∷ 1 ∷ 2 ∷ 4 ∷ 1 ∷ 0 ∷ 2 ∷ 5 ∷ [], [], ran [] [] (false ∷ false ∷ []))
+    ∷ (1 ∷ 0 ∷ 1 ∷ 1 ∷ 0 ∷ 0 ∷ 1 ∷ 0 ∷ 0 ∷ 4 ∷ 1 ∷ 2 ∷ 0 ∷ 5 ∷ [], [], ran [] [] (false ∷ []))
+    ∷ (1 ∷ 0 ∷ 1 ∷ 1 ∷ 0 ∷ 0 ∷ 1 ∷ 0 ∷ 6 ∷ 4 ∷ 0 ∷ 1 ∷ 2 ∷ 5 ∷ [], [], rejected 7 9)
+    -- 8: the first extra byte, whatever it is
+    ∷ (6 ∷ 0 ∷ 5 ∷ 9 ∷ 9 ∷ [], [], rejected 8 3)
+    ∷ []
+
+-- a plan with these counts, otherwise empty, and s with n lines
+abbrev pub counting : ℕ → ℕ → Plan
+counting events rules = record { events = emptyPlan .events; «event_count» = events; rules = emptyPlan .rules; «rule_count» = rules }
+
+abbrev pub withLines : ℕ → State → State
+withLines n s = record { plan = s .plan; standings = s .standings; broken = s .broken; closed = s .closed; history = s .history; «history_len» = n }
+
+abbrev pub firstOn : List ℕ → State
+firstOn b = readSheet b .state
+
+-- a call on a state that a caller brings: the state, the call, its answer
+abbrev pub Brought : Type 0
+Brought = State × Call × Answer
+
+abbrev pub brought : List Brought
+brought =
+    -- a rule recorded as broken forbids nothing: in G a may be done after b, in C b need not wait for a
+    (breakRule (settleAs Done (firstOn sheetG) 1) 0, submitting 0, Is Done)
+    ∷ (breakRule (firstOn sheetC) 0, submitting 1, Is Done)
+    -- 12: a count passes its limit
+    ∷ (firstState (counting 16 0), finishing, TurnedDown NotClosed)
+    ∷ (firstState (counting 17 0), finishing, TurnedDown Incoherent)
+    ∷ (firstState (counting 0 17), finishing, TurnedDown Incoherent)
+    ∷ (doAll (firstState (counting 16 0)) (tabulate 16 0 (λ e. e)), finishing, TurnedDown NotClosed)
+    ∷ (withLines 17 (doAll (firstState (counting 16 0)) (tabulate 16 0 (λ e. e))), finishing, TurnedDown Incoherent)
+    -- a declared event or rule is one that a sheet would be turned down for
+    ∷ (firstState (addEvent emptyPlan 8 0), submitting 0, TurnedDown Incoherent)
+    ∷ (firstState (addEvent emptyPlan 0 4), submitting 0, TurnedDown Incoherent)
+    ∷ (firstState (addRule (addEvent emptyPlan 0 7) (Need 0 0)), submitting 0, TurnedDown Incoherent)
+    ∷ (firstState (addRule (addEvent (addEvent emptyPlan 0 1) 0 6) (Need 0 1)), submitting 0, TurnedDown Incoherent)
+    -- the history names an undeclared event, leaves a settled one out, has one twice, has one that is not settled
+    ∷ (settleAs Done emptyState 0, finishing, TurnedDown Incoherent)
+    ∷ (withLines 0 (settleAs Done (firstOn sheetG) 1), submitting 0, TurnedDown Incoherent)
+    ∷ (settleAs Done (settleAs Done (firstOn sheetG) 1) 1, submitting 0, TurnedDown Incoherent)
+    ∷ (hold (settleAs Done (firstOn sheetG) 0) 0, submitting 1, TurnedDown Incoherent)
+    -- a held event is not delayable; an open event's step is closed
+    ∷ (hold (firstOn sheetD) 0, submitting 1, TurnedDown Incoherent)
+    ∷ (shut (firstOn sheetD) 0, submitting 1, TurnedDown Incoherent)
+    -- an unbroken rule owes, or doesn't hold; a recorded one may
+    ∷ (settleAs Done (firstOn sheetD) 0, submitting 1, TurnedDown Incoherent)
+    ∷ (breakRule (settleAs Done (firstOn sheetD) 0) 0, submitting 1, Is Done)
+    ∷ (settleAs Done (settleAs Done (firstOn sheetG) 1) 0, submitting 1, TurnedDown Incoherent)
+    ∷ (breakRule (settleAs Done (settleAs Done (firstOn sheetG) 1) 0) 0, submitting 1, Is Done)
+    -- a closed step without events, and a mark past the rules, are not looked at
+    ∷ (breakRule (shut (firstOn sheetD) 7) 15, submitting 0, Is Done)
+    -- 12 goes before 9, 10 and 11
+    ∷ (hold (firstOn sheetD) 0, submitting 2, TurnedDown Incoherent)
+    ∷ (hold (firstOn sheetD) 0, closing 2, TurnedDown Incoherent)
+    ∷ (shut (firstOn sheetD) 0, closing 0, TurnedDown Incoherent)
+    ∷ (hold (firstOn sheetD) 0, finishing, TurnedDown Incoherent)
+    ∷ []
+
+-- case A's report, exactly document 01's text
+abbrev pub reportA : List ℕ
+reportA =
+    (101 ∷ 118 ∷ 101 ∷ 110 ∷ 116 ∷ 115 ∷ 32 ∷ 50 ∷ 32 ∷ 114 ∷ 117 ∷ 108 ∷ 101 ∷ 115 ∷ 32 ∷ 50 ∷ 10 ∷ [])  -- events 2 rules 2
+    ++ (48 ∷ 32 ∷ 100 ∷ 111 ∷ 110 ∷ 101 ∷ 10 ∷ [])  -- 0 done
+    ++ (49 ∷ 32 ∷ 100 ∷ 111 ∷ 110 ∷ 101 ∷ 10 ∷ [])  -- 1 done
+    ++ (104 ∷ 101 ∷ 108 ∷ 100 ∷ 32 ∷ 48 ∷ 10 ∷ [])  -- held 0
+    ++ (98 ∷ 114 ∷ 111 ∷ 107 ∷ 101 ∷ 110 ∷ 32 ∷ 48 ∷ 10 ∷ [])  -- broken 0
+    ++ (114 ∷ 101 ∷ 102 ∷ 117 ∷ 115 ∷ 101 ∷ 100 ∷ 32 ∷ 99 ∷ 97 ∷ 108 ∷ 108 ∷ 115 ∷ 32 ∷ 48 ∷ 10 ∷ [])  -- refused calls 0
+
+-- case E's report
+abbrev pub reportE : List ℕ
+reportE =
+    (101 ∷ 118 ∷ 101 ∷ 110 ∷ 116 ∷ 115 ∷ 32 ∷ 50 ∷ 32 ∷ 114 ∷ 117 ∷ 108 ∷ 101 ∷ 115 ∷ 32 ∷ 49 ∷ 10 ∷ [])  -- events 2 rules 1
+    ++ (49 ∷ 32 ∷ 108 ∷ 97 ∷ 112 ∷ 115 ∷ 101 ∷ 100 ∷ 10 ∷ [])  -- 1 lapsed
+    ++ (48 ∷ 32 ∷ 100 ∷ 111 ∷ 110 ∷ 101 ∷ 10 ∷ [])  -- 0 done
+    ++ (104 ∷ 101 ∷ 108 ∷ 100 ∷ 32 ∷ 48 ∷ 10 ∷ [])  -- held 0
+    ++ (98 ∷ 114 ∷ 111 ∷ 107 ∷ 101 ∷ 110 ∷ 32 ∷ 49 ∷ 10 ∷ [])  -- broken 1
+    ++ (114 ∷ 101 ∷ 102 ∷ 117 ∷ 115 ∷ 101 ∷ 100 ∷ 32 ∷ 99 ∷ 97 ∷ 108 ∷ 108 ∷ 115 ∷ 32 ∷ 48 ∷ 10 ∷ [])  -- refused calls 0
+
+-- case F's
+abbrev pub reportF : List ℕ
+reportF =
+    (114 ∷ 101 ∷ 102 ∷ 117 ∷ 115 ∷ 101 ∷ 100 ∷ 32 ∷ 55 ∷ 32 ∷ 97 ∷ 116 ∷ 32 ∷ 54 ∷ 10 ∷ [])  -- refused 7 at 6
+
+-- a report with numbers of two digits
+abbrev pub reportWide : List ℕ
+reportWide =
+    (101 ∷ 118 ∷ 101 ∷ 110 ∷ 116 ∷ 115 ∷ 32 ∷ 49 ∷ 54 ∷ 32 ∷ 114 ∷ 117 ∷ 108 ∷ 101 ∷ 115 ∷ 32 ∷ 48 ∷ 10 ∷ [])  -- events 16 rules 0
+    ++ (49 ∷ 50 ∷ 32 ∷ 100 ∷ 111 ∷ 110 ∷ 101 ∷ 10 ∷ [])  -- 12 done
+    ++ (104 ∷ 101 ∷ 108 ∷ 100 ∷ 32 ∷ 48 ∷ 10 ∷ [])  -- held 0
+    ++ (98 ∷ 114 ∷ 111 ∷ 107 ∷ 101 ∷ 110 ∷ 32 ∷ 48 ∷ 10 ∷ [])  -- broken 0
+    ++ (114 ∷ 101 ∷ 102 ∷ 117 ∷ 115 ∷ 101 ∷ 100 ∷ 32 ∷ 99 ∷ 97 ∷ 108 ∷ 108 ∷ 115 ∷ 32 ∷ 49 ∷ 48 ∷ 10 ∷ [])  -- refused calls 10
+
+-- the sheet, the call file, the report
+abbrev pub Report : Type 0
+Report = List ℕ × List ℕ × List ℕ
+
+abbrev pub reports : List Report
+reports =
+    (sheetA, 16 ∷ 0 ∷ 16 ∷ 1 ∷ [], reportA)
+    ∷ (sheetD, 17 ∷ 1 ∷ 16 ∷ 0 ∷ [], reportE)
+    ∷ (sheetF, 16 ∷ 0 ∷ [], reportF)
+    -- nine undeclared events and a cut record
+    ∷ (sixteenEvents ++ (5 ∷ []), times 9 (16 ∷ 16 ∷ []) ++ (16 ∷ 12 ∷ 16 ∷ []), reportWide)
+    ∷ []
+
+-- the joint proof: every row of the three lists
+pub marked :
+    (map (λ (c : Case). given (c .0) (c .1)) cases ≡ map (λ (c : Case). c .2) cases)
+    × (map (λ (c : Brought). call (c .0) (c .1) .answer) brought ≡ map (λ (c : Brought). c .2) brought)
+    × (map (λ (c : Report). report (runOf (c .0) (c .1))) reports ≡ map (λ (c : Report). c .2) reports)
+unfolding given answersOf tabulate anyBelow allBelow firstOf lowest hold settleAs shut breakRule named enforceable soundEvent soundRule bars makesWait forbids owes barred forbidden owing fatesIn anyDone doneIn doneInTurn holds ready mayDo doAll orderOf chosen toRefuse toDo settleOnce settleUpTo settle strains recordBroken doAlone decide submit lapse closeStep refuseHeld finish firstFault declaredOnly sameFates listed coherentEvent coherentRule coherent hasEvent callFault accept call ruleOf addEvent addRule addEvents declare recordFault ending readFrom readPlan readSheet stateAfter countBelow decodeFrom decode turnedDown runOn runOf digits decimal historyLines report
+marked = (refl, refl, refl)
+
+-- the faults' numbers
+pub numbers : map faultNumber (Cut ∷ BadKind ∷ Full ∷ BadStep ∷ BadAttributes ∷ BadNames ∷ Unenforceable ∷ Extra ∷ Unknown ∷ AlreadyClosed ∷ NotClosed ∷ Incoherent ∷ []) ≡ 1 ∷ 2 ∷ 3 ∷ 4 ∷ 5 ∷ 6 ∷ 7 ∷ 8 ∷ 9 ∷ 10 ∷ 11 ∷ 12 ∷ []
+numbers = refl
+
+-- what a plan declares: steps and attributes of its events, and its rules
+abbrev pub declares : Plan → List (ℕ × ℕ) × List Rule
+declares p = (map (λ e. (e .step, e .attributes)) (take (eventCount p) (p .events)), map (λ r. r .rule) (take (ruleCount p) (p .rules)))
+
+-- kind 6 has its attributes from table 1; rules keep their events' places
+pub declared : declares (firstOn (6 ∷ 3 ∷ 1 ∷ 7 ∷ 2 ∷ 2 ∷ 2 ∷ 0 ∷ 3 ∷ 0 ∷ 1 ∷ 4 ∷ 1 ∷ 4 ∷ 3 ∷ 5 ∷ []) .plan) ≡ ((3, 7) ∷ (3, 0) ∷ (3, 6) ∷ (3, 1) ∷ (7, 2) ∷ [], Order 2 0 ∷ Need 0 1 ∷ Conditional 1 4 3 ∷ [])
+unfolding named enforceable firstFault ruleOf addEvent addRule addEvents declare recordFault ending readFrom readPlan readSheet
+declared = refl
+
+-- the state after case E, written down
+abbrev pub afterE : State
+afterE = breakRule (settleAs Done (settleAs Lapsed (shut (firstOn sheetD) 1) 1) 0) 0
+
+-- what its readers answer: declared numbers, and undeclared ones; and an event past the limit of a count that is past it
+pub readings :
+    (map (fateRead afterE) (0 ∷ 1 ∷ 2 ∷ []) ≡ FateRead.Is Done ∷ FateRead.Is Lapsed ∷ FateRead.Undeclared ∷ [])
+    × (map (eventRead afterE) (1 ∷ 2 ∷ []) ≡ EventRead.Is (record { step = 1; attributes = 1 }) ∷ EventRead.Undeclared ∷ [])
+    × (map (ruleRead afterE) (0 ∷ 1 ∷ []) ≡ RuleRead.Is (Need 0 1) ∷ RuleRead.Undeclared ∷ [])
+    × (map (lineRead afterE) (0 ∷ 1 ∷ 2 ∷ []) ≡ EntryRead.Is (record { event = 1; fate = Lapsed }) ∷ EntryRead.Is (record { event = 0; fate = Done }) ∷ EntryRead.Undeclared ∷ [])
+    × (map (closedRead afterE) (0 ∷ 1 ∷ 7 ∷ 8 ∷ []) ≡ Mark.No ∷ Mark.Yes ∷ Mark.No ∷ Mark.Undeclared ∷ [])
+    × (map (brokenRead afterE) (0 ∷ 1 ∷ []) ≡ Mark.Yes ∷ Mark.Undeclared ∷ [])
+    × (map (fateRead (firstState (counting 17 0))) (15 ∷ 16 ∷ []) ≡ FateRead.Is Open ∷ FateRead.Undeclared ∷ [])
+unfolding shut settleAs breakRule named enforceable firstFault ruleOf addEvent addRule addEvents declare recordFault ending readFrom readPlan readSheet fateRead eventRead ruleRead lineRead closedRead brokenRead
+readings = (refl, refl, refl, refl, refl, refl, refl)
+
+abbrev pub read : List Call → Bool → Decoded
+read calls cut = record { calls = calls; cut = cut }
+
+-- the call file: whole; cut at kinds 16 and 17; another kind ends the reading; 18 alone; none
+pub decoded :
+    map decode ((16 ∷ 3 ∷ 17 ∷ 16 ∷ 18 ∷ 16 ∷ 255 ∷ []) ∷ (18 ∷ 16 ∷ []) ∷ (18 ∷ 17 ∷ []) ∷ (18 ∷ 19 ∷ 18 ∷ []) ∷ (18 ∷ []) ∷ [] ∷ [])
+    ≡ read (submitting 3 ∷ closing 16 ∷ finishing ∷ submitting 255 ∷ []) false ∷ read (finishing ∷ []) true ∷ read (finishing ∷ []) true ∷ read (finishing ∷ []) true ∷ read (finishing ∷ []) false ∷ read [] false ∷ []
+unfolding decodeFrom decode
+decoded = refl
+
+-- 0, 7, 10, 65536
+pub decimals : map decimal (0 ∷ 7 ∷ 10 ∷ 65536 ∷ []) ≡ (48 ∷ []) ∷ (55 ∷ []) ∷ (49 ∷ 48 ∷ []) ∷ (54 ∷ 53 ∷ 53 ∷ 51 ∷ 54 ∷ []) ∷ []
+unfolding digits decimal
+decimals = refl

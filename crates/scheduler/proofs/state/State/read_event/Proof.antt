@@ -1,0 +1,27 @@
+-- `State::read_event` meets its contract.
+use borrow.Author.Tests.{lt-ltb, le-ltb}
+use Rattle.scheduler.specs.Readers.{eventRead}
+use borrow.Author.Needs.{needs}
+use Rattle.scheduler.proofs.state.State.read_event.Statement.{statement}
+use Rattle.scheduler.proofs.state.State.read_event.Tie as tie
+
+returns : tie.Need-returns
+unfolding eventRead
+returns c = simp (eventRead, le-ltb _ _ (c .if1 .taken))
+
+mul-t8 : tie.Need-mul-t8
+mul-t8 c = search needs
+
+array-copy-out-t11 : tie.Need-array-copy-out-t11
+array-copy-out-t11 c = search needs
+
+returns-2 : tie.Need-returns-2
+unfolding eventRead
+returns-2 c = simp (eventRead, lt-ltb _ _ (c .before .before .if1 .left), lt-ltb _ _ (c .before .if2 .taken))
+
+returns-3 : tie.Need-returns-3
+unfolding eventRead
+returns-3 c = simp (eventRead, lt-ltb _ _ (c .before .if1 .left), le-ltb _ _ (c .if2 .left))
+
+pub read-event-spec : {M : Type 1} → statement M
+read-event-spec = tie.close (tie.spec returns mul-t8 array-copy-out-t11 returns-2 returns-3)

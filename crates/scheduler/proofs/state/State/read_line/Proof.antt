@@ -1,0 +1,27 @@
+-- `State::read_line` meets its contract.
+use borrow.Author.Tests.{lt-ltb, le-ltb}
+use Rattle.scheduler.specs.Readers.{lineRead}
+use borrow.Author.Needs.{needs}
+use Rattle.scheduler.proofs.state.State.read_line.Statement.{statement}
+use Rattle.scheduler.proofs.state.State.read_line.Tie as tie
+
+returns : tie.Need-returns
+unfolding lineRead
+returns c = simp (lineRead, le-ltb _ _ (c .if1 .taken))
+
+mul-t7 : tie.Need-mul-t7
+mul-t7 c = search needs
+
+array-copy-out-t10 : tie.Need-array-copy-out-t10
+array-copy-out-t10 c = search needs
+
+returns-2 : tie.Need-returns-2
+unfolding lineRead
+returns-2 c = simp (lineRead, lt-ltb _ _ (c .before .before .if1 .left), lt-ltb _ _ (c .before .if2 .taken))
+
+returns-3 : tie.Need-returns-3
+unfolding lineRead
+returns-3 c = simp (lineRead, lt-ltb _ _ (c .before .if1 .left), le-ltb _ _ (c .if2 .left))
+
+pub read-line-spec : {M : Type 1} → statement M
+read-line-spec = tie.close (tie.spec returns mul-t7 array-copy-out-t10 returns-2 returns-3)
