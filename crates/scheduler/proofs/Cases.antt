@@ -50,6 +50,9 @@ sheetF = 1 ∷ 0 ∷ 1 ∷ 1 ∷ 1 ∷ 6 ∷ 3 ∷ 0 ∷ 1 ∷ 5 ∷ []
 abbrev pub sheetG : List ℕ
 sheetG = 1 ∷ 0 ∷ 6 ∷ 1 ∷ 0 ∷ 0 ∷ 2 ∷ 0 ∷ 1 ∷ 5 ∷ []
 
+abbrev pub sheetL : List ℕ
+sheetL = 1 ∷ 0 ∷ 6 ∷ 1 ∷ 1 ∷ 6 ∷ 1 ∷ 2 ∷ 6 ∷ 4 ∷ 0 ∷ 1 ∷ 2 ∷ 5 ∷ []
+
 -- b, n times
 abbrev pub times : ℕ → List ℕ → List ℕ
 times zero b = []
@@ -95,7 +98,7 @@ cases =
     ∷ (5 ∷ 5 ∷ [], [], rejected 8 1)
     ∷ (1 ∷ 0 ∷ 4 ∷ 5 ∷ [], [], rejected 5 0)
     -- L
-    ∷ (1 ∷ 0 ∷ 6 ∷ 1 ∷ 1 ∷ 6 ∷ 1 ∷ 2 ∷ 6 ∷ 4 ∷ 0 ∷ 1 ∷ 2 ∷ 5 ∷ [], submitting 0 ∷ submitting 1 ∷ closing 2 ∷ [], ran (Is Done ∷ Is Held ∷ Made ∷ []) ((0, Done) ∷ (2, Lapsed) ∷ (1, Refused) ∷ []) (false ∷ []))
+    ∷ (sheetL, submitting 0 ∷ submitting 1 ∷ closing 2 ∷ [], ran (Is Done ∷ Is Held ∷ Made ∷ []) ((0, Done) ∷ (2, Lapsed) ∷ (1, Refused) ∷ []) (false ∷ []))
     -- open events lapse lowest first
     ∷ (1 ∷ 0 ∷ 6 ∷ 1 ∷ 0 ∷ 6 ∷ 5 ∷ [], closing 0 ∷ [], ran (Made ∷ []) ((0, Lapsed) ∷ (1, Lapsed) ∷ []) [])
     -- orders 2, 0 and 2, 1: the lowest held event with a viable order is 0, by the order 2, 0
@@ -108,6 +111,13 @@ cases =
     ∷ (1 ∷ 0 ∷ 6 ∷ 1 ∷ 0 ∷ 6 ∷ 1 ∷ 1 ∷ 6 ∷ 1 ∷ 1 ∷ 6 ∷ 2 ∷ 2 ∷ 0 ∷ 3 ∷ 1 ∷ 3 ∷ 5 ∷ [], submitting 0 ∷ submitting 1 ∷ closing 1 ∷ [], ran (Is Held ∷ Is Held ∷ Made ∷ []) ((2, Lapsed) ∷ (3, Lapsed) ∷ (1, Refused) ∷ (0, Done) ∷ []) (false ∷ false ∷ []))
     -- two held triggers are not barred: order 3 before both, conditional 0, 1, 2
     ∷ (1 ∷ 0 ∷ 6 ∷ 1 ∷ 0 ∷ 6 ∷ 1 ∷ 1 ∷ 6 ∷ 1 ∷ 0 ∷ 6 ∷ 2 ∷ 3 ∷ 0 ∷ 2 ∷ 3 ∷ 1 ∷ 4 ∷ 0 ∷ 1 ∷ 2 ∷ 5 ∷ [], submitting 0 ∷ submitting 1 ∷ closing 1 ∷ submitting 3 ∷ [], ran (Is Held ∷ Is Held ∷ Made ∷ Is Done ∷ []) ((2, Lapsed) ∷ (3, Done) ∷ (0, Done) ∷ (1, Refused) ∷ []) (false ∷ false ∷ false ∷ []))
+    -- nor is a trigger barred by one that lapsed; and c done bars nothing
+    ∷ (1 ∷ 0 ∷ 6 ∷ 1 ∷ 1 ∷ 6 ∷ 1 ∷ 1 ∷ 6 ∷ 4 ∷ 0 ∷ 1 ∷ 2 ∷ 4 ∷ 1 ∷ 0 ∷ 2 ∷ 5 ∷ [], closing 1 ∷ submitting 0 ∷ [], ran (Made ∷ Is Done ∷ []) ((1, Lapsed) ∷ (2, Lapsed) ∷ (0, Done) ∷ []) (false ∷ false ∷ []))
+    ∷ (sheetL, submitting 2 ∷ submitting 0 ∷ submitting 1 ∷ [], ran (Is Done ∷ Is Done ∷ Is Done ∷ []) ((2, Done) ∷ (0, Done) ∷ (1, Done) ∷ []) (false ∷ []))
+    -- settling goes on: four events waited for 4
+    ∷ (times 4 (1 ∷ 0 ∷ 6 ∷ []) ++ (1 ∷ 1 ∷ 6 ∷ 2 ∷ 4 ∷ 0 ∷ 2 ∷ 4 ∷ 1 ∷ 2 ∷ 4 ∷ 2 ∷ 2 ∷ 4 ∷ 3 ∷ 5 ∷ []), submitting 3 ∷ submitting 2 ∷ submitting 1 ∷ submitting 0 ∷ closing 1 ∷ [], ran (Is Held ∷ Is Held ∷ Is Held ∷ Is Held ∷ Made ∷ []) ((4, Lapsed) ∷ (0, Done) ∷ (1, Done) ∷ (2, Done) ∷ (3, Done) ∷ []) (replicate 4 false))
+    -- winding up goes on: two pairs as in H
+    ∷ (times 4 (1 ∷ 7 ∷ 6 ∷ []) ++ (2 ∷ 0 ∷ 1 ∷ 2 ∷ 1 ∷ 0 ∷ 2 ∷ 2 ∷ 3 ∷ 2 ∷ 3 ∷ 2 ∷ 5 ∷ []), submitting 0 ∷ submitting 1 ∷ submitting 2 ∷ submitting 3 ∷ finishing ∷ closing 7 ∷ closing 7 ∷ finishing ∷ finishing ∷ [], ran (Is Held ∷ Is Held ∷ Is Held ∷ Is Held ∷ TurnedDown NotClosed ∷ Made ∷ TurnedDown AlreadyClosed ∷ Made ∷ Made ∷ []) ((0, Refused) ∷ (1, Done) ∷ (2, Refused) ∷ (3, Done) ∷ []) (replicate 4 false))
     -- an event that is not delayable goes by its own order before anything is settled: 1, 0, where A has 0, 1
     ∷ (1 ∷ 0 ∷ 6 ∷ 1 ∷ 0 ∷ 0 ∷ 3 ∷ 0 ∷ 1 ∷ 5 ∷ [], submitting 0 ∷ submitting 1 ∷ [], ran (Is Held ∷ Is Done ∷ []) ((1, Done) ∷ (0, Done) ∷ []) (false ∷ []))
     -- a forced b that is delayable waits too (need 0, 1, order 2, 1): 0 is done alone. Its recorded rule owes no more: 3 is done
@@ -160,16 +170,22 @@ cases =
     ∷ (1 ∷ 0 ∷ 0 ∷ 1 ∷ 1 ∷ 1 ∷ 1 ∷ 2 ∷ 2 ∷ 1 ∷ 3 ∷ 3 ∷ 1 ∷ 6 ∷ 6 ∷ 1 ∷ 7 ∷ 7 ∷ 5 ∷ [], [], ran [] [] [])
     ∷ (1 ∷ 0 ∷ 5 ∷ [], [], rejected 5 0)
     ∷ (6 ∷ 0 ∷ 1 ∷ 0 ∷ 8 ∷ [], [], rejected 5 2)
-    -- 6: an event declared only below, and one event twice; before 7
+    -- 6: an event declared only below or not at all, and one event twice; before 7
     ∷ (1 ∷ 0 ∷ 6 ∷ 2 ∷ 0 ∷ 1 ∷ 1 ∷ 0 ∷ 6 ∷ 5 ∷ [], [], rejected 6 3)
+    ∷ (1 ∷ 0 ∷ 6 ∷ 2 ∷ 1 ∷ 0 ∷ 5 ∷ [], [], rejected 6 3)
+    ∷ (1 ∷ 0 ∷ 7 ∷ 3 ∷ 1 ∷ 0 ∷ 5 ∷ [], [], rejected 6 3)
+    ∷ (6 ∷ 0 ∷ 4 ∷ 4 ∷ 0 ∷ 2 ∷ 5 ∷ [], [], rejected 6 2)
+    ∷ (6 ∷ 0 ∷ 4 ∷ 0 ∷ 4 ∷ 2 ∷ 5 ∷ [], [], rejected 6 2)
+    ∷ (6 ∷ 0 ∷ 4 ∷ 0 ∷ 2 ∷ 4 ∷ 5 ∷ [], [], rejected 6 2)
     ∷ (1 ∷ 0 ∷ 6 ∷ 2 ∷ 0 ∷ 0 ∷ 5 ∷ [], [], rejected 6 3)
     ∷ (1 ∷ 0 ∷ 7 ∷ 3 ∷ 0 ∷ 0 ∷ 5 ∷ [], [], rejected 6 3)
     ∷ (6 ∷ 0 ∷ 4 ∷ 0 ∷ 0 ∷ 2 ∷ 5 ∷ [], [], rejected 6 2)
     ∷ (6 ∷ 0 ∷ 4 ∷ 0 ∷ 2 ∷ 0 ∷ 5 ∷ [], [], rejected 6 2)
     ∷ (6 ∷ 0 ∷ 4 ∷ 0 ∷ 2 ∷ 2 ∷ 5 ∷ [], [], rejected 6 2)
     ∷ (1 ∷ 0 ∷ 1 ∷ 3 ∷ 0 ∷ 1 ∷ 5 ∷ [], [], rejected 6 3)
-    -- 7: order with b delayable; order with b rejectable alone; conditional with a, b or c, and with none
+    -- 7: order with b delayable; with a rejectable; with b rejectable alone; conditional with a, b or c, and with none
     ∷ (1 ∷ 0 ∷ 0 ∷ 1 ∷ 0 ∷ 6 ∷ 2 ∷ 0 ∷ 1 ∷ 5 ∷ [], [], ran [] [] (false ∷ []))
+    ∷ (1 ∷ 0 ∷ 2 ∷ 1 ∷ 0 ∷ 0 ∷ 2 ∷ 0 ∷ 1 ∷ 5 ∷ [], [], ran [] [] (false ∷ []))
     ∷ (1 ∷ 0 ∷ 1 ∷ 1 ∷ 0 ∷ 2 ∷ 2 ∷ 0 ∷ 1 ∷ 5 ∷ [], [], rejected 7 6)
     ∷ (1 ∷ 0 ∷ 2 ∷ 1 ∷ 0 ∷ 0 ∷ 1 ∷ 0 ∷ 0 ∷ 4 ∷ 0 ∷ 1 ∷ 2 ∷ 4 ∷ 1 ∷ 0 ∷ 2 ∷ 5 ∷ [], [], ran [] [] (false ∷ false ∷ []))
     ∷ (1 ∷ 0 ∷ 1 ∷ 1 ∷ 0 ∷ 0 ∷ 1 ∷ 0 ∷ 0 ∷ 4 ∷ 1 ∷ 2 ∷ 0 ∷ 5 ∷ [], [], ran [] [] (false ∷ []))
@@ -188,46 +204,53 @@ withLines n s = record { plan = s .plan; standings = s .standings; broken = s .b
 abbrev pub firstOn : List ℕ → State
 firstOn b = readSheet b .state
 
--- a call on a state that a caller brings: the state, the call, its answer
+-- calls on a state that a caller brings: the state, the calls, their answers
 abbrev pub Brought : Type 0
-Brought = State × Call × Answer
+Brought = State × List Call × List Answer
 
 abbrev pub brought : List Brought
 brought =
     -- a rule recorded as broken forbids nothing: in G a may be done after b, in C b need not wait for a
-    (breakRule (settleAs Done (firstOn sheetG) 1) 0, submitting 0, Is Done)
-    ∷ (breakRule (firstOn sheetC) 0, submitting 1, Is Done)
+    (breakRule (settleAs Done (firstOn sheetG) 1) 0, submitting 0 ∷ [], Is Done ∷ [])
+    ∷ (breakRule (firstOn sheetC) 0, submitting 1 ∷ [], Is Done ∷ [])
+    -- an event that isn't open: nothing changes, though 0 could be done; winding up settles first
+    ∷ (hold (firstOn sheetG) 0, submitting 0 ∷ [], Is Held ∷ [])
+    ∷ (shut (hold (firstOn (1 ∷ 0 ∷ 6 ∷ 5 ∷ [])) 0) 0, finishing ∷ submitting 0 ∷ [], Made ∷ Is Done ∷ [])
     -- 12: a count passes its limit
-    ∷ (firstState (counting 16 0), finishing, TurnedDown NotClosed)
-    ∷ (firstState (counting 17 0), finishing, TurnedDown Incoherent)
-    ∷ (firstState (counting 0 17), finishing, TurnedDown Incoherent)
-    ∷ (doAll (firstState (counting 16 0)) (tabulate 16 0 (λ e. e)), finishing, TurnedDown NotClosed)
-    ∷ (withLines 17 (doAll (firstState (counting 16 0)) (tabulate 16 0 (λ e. e))), finishing, TurnedDown Incoherent)
+    ∷ (firstState (counting 16 0), finishing ∷ [], TurnedDown NotClosed ∷ [])
+    ∷ (firstState (counting 17 0), finishing ∷ [], TurnedDown Incoherent ∷ [])
+    ∷ (firstState (counting 0 17), finishing ∷ [], TurnedDown Incoherent ∷ [])
+    ∷ (doAll (firstState (counting 16 0)) (tabulate 16 0 (λ e. e)), finishing ∷ [], TurnedDown NotClosed ∷ [])
+    ∷ (withLines 17 (doAll (firstState (counting 16 0)) (tabulate 16 0 (λ e. e))), finishing ∷ [], TurnedDown Incoherent ∷ [])
     -- a declared event or rule is one that a sheet would be turned down for
-    ∷ (firstState (addEvent emptyPlan 8 0), submitting 0, TurnedDown Incoherent)
-    ∷ (firstState (addEvent emptyPlan 0 4), submitting 0, TurnedDown Incoherent)
-    ∷ (firstState (addRule (addEvent emptyPlan 0 7) (Need 0 0)), submitting 0, TurnedDown Incoherent)
-    ∷ (firstState (addRule (addEvent (addEvent emptyPlan 0 1) 0 6) (Need 0 1)), submitting 0, TurnedDown Incoherent)
-    -- the history names an undeclared event, leaves a settled one out, has one twice, has one that is not settled
-    ∷ (settleAs Done emptyState 0, finishing, TurnedDown Incoherent)
-    ∷ (withLines 0 (settleAs Done (firstOn sheetG) 1), submitting 0, TurnedDown Incoherent)
-    ∷ (settleAs Done (settleAs Done (firstOn sheetG) 1) 1, submitting 0, TurnedDown Incoherent)
-    ∷ (hold (settleAs Done (firstOn sheetG) 0) 0, submitting 1, TurnedDown Incoherent)
+    ∷ (firstState (addEvent emptyPlan 8 0), submitting 0 ∷ [], TurnedDown Incoherent ∷ [])
+    ∷ (firstState (addEvent emptyPlan 0 4), submitting 0 ∷ [], TurnedDown Incoherent ∷ [])
+    ∷ (firstState (addRule (addEvent emptyPlan 0 7) (Need 0 0)), submitting 0 ∷ [], TurnedDown Incoherent ∷ [])
+    ∷ (firstState (addRule (addEvent (addEvent emptyPlan 0 1) 0 6) (Need 0 1)), submitting 0 ∷ [], TurnedDown Incoherent ∷ [])
+    -- the history names an undeclared event, leaves a settled one out, has one twice, has one that is not settled, has another fate
+    ∷ (settleAs Done emptyState 0, finishing ∷ [], TurnedDown Incoherent ∷ [])
+    ∷ (withLines 0 (settleAs Done (firstOn sheetG) 1), submitting 0 ∷ [], TurnedDown Incoherent ∷ [])
+    ∷ (settleAs Done (settleAs Done (firstOn sheetG) 1) 1, submitting 0 ∷ [], TurnedDown Incoherent ∷ [])
+    ∷ (hold (settleAs Done (firstOn sheetG) 0) 0, submitting 1 ∷ [], TurnedDown Incoherent ∷ [])
+    ∷ (withLines 1 (settleAs Refused (settleAs Done (firstOn sheetG) 0) 0), submitting 1 ∷ [], TurnedDown Incoherent ∷ [])
     -- a held event is not delayable; an open event's step is closed
-    ∷ (hold (firstOn sheetD) 0, submitting 1, TurnedDown Incoherent)
-    ∷ (shut (firstOn sheetD) 0, submitting 1, TurnedDown Incoherent)
+    ∷ (hold (firstOn sheetD) 0, submitting 1 ∷ [], TurnedDown Incoherent ∷ [])
+    ∷ (shut (firstOn sheetD) 0, submitting 1 ∷ [], TurnedDown Incoherent ∷ [])
     -- an unbroken rule owes, or doesn't hold; a recorded one may
-    ∷ (settleAs Done (firstOn sheetD) 0, submitting 1, TurnedDown Incoherent)
-    ∷ (breakRule (settleAs Done (firstOn sheetD) 0) 0, submitting 1, Is Done)
-    ∷ (settleAs Done (settleAs Done (firstOn sheetG) 1) 0, submitting 1, TurnedDown Incoherent)
-    ∷ (breakRule (settleAs Done (settleAs Done (firstOn sheetG) 1) 0) 0, submitting 1, Is Done)
+    ∷ (settleAs Done (firstOn sheetD) 0, submitting 1 ∷ [], TurnedDown Incoherent ∷ [])
+    ∷ (breakRule (settleAs Done (firstOn sheetD) 0) 0, submitting 1 ∷ [], Is Done ∷ [])
+    ∷ (settleAs Done (settleAs Done (firstOn sheetG) 1) 0, submitting 1 ∷ [], TurnedDown Incoherent ∷ [])
+    ∷ (breakRule (settleAs Done (settleAs Done (firstOn sheetG) 1) 0) 0, submitting 1 ∷ [], Is Done ∷ [])
+    ∷ (settleAs Refused (settleAs Done (firstOn sheetD) 0) 1, finishing ∷ [], TurnedDown Incoherent ∷ [])
+    ∷ (doAll (settleAs Refused (firstOn sheetL) 2) (0 ∷ 1 ∷ []), finishing ∷ [], TurnedDown Incoherent ∷ [])
+    ∷ (breakRule (doAll (settleAs Refused (firstOn sheetL) 2) (0 ∷ 1 ∷ [])) 0, finishing ∷ [], TurnedDown NotClosed ∷ [])
     -- a closed step without events, and a mark past the rules, are not looked at
-    ∷ (breakRule (shut (firstOn sheetD) 7) 15, submitting 0, Is Done)
+    ∷ (breakRule (shut (firstOn sheetD) 7) 15, submitting 0 ∷ [], Is Done ∷ [])
     -- 12 goes before 9, 10 and 11
-    ∷ (hold (firstOn sheetD) 0, submitting 2, TurnedDown Incoherent)
-    ∷ (hold (firstOn sheetD) 0, closing 2, TurnedDown Incoherent)
-    ∷ (shut (firstOn sheetD) 0, closing 0, TurnedDown Incoherent)
-    ∷ (hold (firstOn sheetD) 0, finishing, TurnedDown Incoherent)
+    ∷ (hold (firstOn sheetD) 0, submitting 2 ∷ [], TurnedDown Incoherent ∷ [])
+    ∷ (hold (firstOn sheetD) 0, closing 2 ∷ [], TurnedDown Incoherent ∷ [])
+    ∷ (shut (firstOn sheetD) 0, closing 0 ∷ [], TurnedDown Incoherent ∷ [])
+    ∷ (hold (firstOn sheetD) 0, finishing ∷ [], TurnedDown Incoherent ∷ [])
     ∷ []
 
 -- case A's report, exactly document 01's text
@@ -255,6 +278,14 @@ abbrev pub reportF : List ℕ
 reportF =
     (114 ∷ 101 ∷ 102 ∷ 117 ∷ 115 ∷ 101 ∷ 100 ∷ 32 ∷ 55 ∷ 32 ∷ 97 ∷ 116 ∷ 32 ∷ 54 ∷ 10 ∷ [])  -- refused 7 at 6
 
+-- A's sheet with 0 handed in and step 0 closed twice
+abbrev pub reportHeld : List ℕ
+reportHeld =
+    (101 ∷ 118 ∷ 101 ∷ 110 ∷ 116 ∷ 115 ∷ 32 ∷ 50 ∷ 32 ∷ 114 ∷ 117 ∷ 108 ∷ 101 ∷ 115 ∷ 32 ∷ 50 ∷ 10 ∷ [])  -- events 2 rules 2
+    ++ (104 ∷ 101 ∷ 108 ∷ 100 ∷ 32 ∷ 49 ∷ 10 ∷ [])  -- held 1
+    ++ (98 ∷ 114 ∷ 111 ∷ 107 ∷ 101 ∷ 110 ∷ 32 ∷ 48 ∷ 10 ∷ [])  -- broken 0
+    ++ (114 ∷ 101 ∷ 102 ∷ 117 ∷ 115 ∷ 101 ∷ 100 ∷ 32 ∷ 99 ∷ 97 ∷ 108 ∷ 108 ∷ 115 ∷ 32 ∷ 49 ∷ 10 ∷ [])  -- refused calls 1
+
 -- a report with numbers of two digits
 abbrev pub reportWide : List ℕ
 reportWide =
@@ -271,6 +302,7 @@ Report = List ℕ × List ℕ × List ℕ
 abbrev pub reports : List Report
 reports =
     (sheetA, 16 ∷ 0 ∷ 16 ∷ 1 ∷ [], reportA)
+    ∷ (sheetA, 16 ∷ 0 ∷ 17 ∷ 0 ∷ 17 ∷ 0 ∷ [], reportHeld)
     ∷ (sheetD, 17 ∷ 1 ∷ 16 ∷ 0 ∷ [], reportE)
     ∷ (sheetF, 16 ∷ 0 ∷ [], reportF)
     -- nine undeclared events and a cut record
@@ -280,10 +312,18 @@ reports =
 -- the joint proof: every row of the three lists
 pub marked :
     (map (λ (c : Case). given (c .0) (c .1)) cases ≡ map (λ (c : Case). c .2) cases)
-    × (map (λ (c : Brought). call (c .0) (c .1) .answer) brought ≡ map (λ (c : Brought). c .2) brought)
+    × (map (λ (c : Brought). answersOf (c .0) (c .1)) brought ≡ map (λ (c : Brought). c .2) brought)
     × (map (λ (c : Report). report (runOf (c .0) (c .1))) reports ≡ map (λ (c : Report). c .2) reports)
 unfolding given answersOf tabulate anyBelow allBelow firstOf lowest hold settleAs shut breakRule named enforceable soundEvent soundRule bars makesWait forbids owes barred forbidden owing fatesIn anyDone doneIn doneInTurn holds ready mayDo doAll orderOf chosen toRefuse toDo settleOnce settleUpTo settle strains recordBroken doAlone decide submit lapse closeStep refuseHeld finish firstFault declaredOnly sameFates listed coherentEvent coherentRule coherent hasEvent callFault accept call ruleOf addEvent addRule addEvents declare recordFault ending readFrom readPlan readSheet stateAfter countBelow decodeFrom decode turnedDown runOn runOf digits decimal historyLines report
 marked = (refl, refl, refl)
+
+-- a target that is refused is owed no more; no list of calls comes to this
+abbrev pub targetRefused : State
+targetRefused = settleAs Refused (doAll emptyState (0 ∷ 1 ∷ [])) 2
+
+pub unowed : map (owes targetRefused) (Need 0 2 ∷ Conditional 0 1 2 ∷ []) ≡ false ∷ false ∷ []
+unfolding settleAs doAll owes
+unowed = refl
 
 -- the faults' numbers
 pub numbers : map faultNumber (Cut ∷ BadKind ∷ Full ∷ BadStep ∷ BadAttributes ∷ BadNames ∷ Unenforceable ∷ Extra ∷ Unknown ∷ AlreadyClosed ∷ NotClosed ∷ Incoherent ∷ []) ≡ 1 ∷ 2 ∷ 3 ∷ 4 ∷ 5 ∷ 6 ∷ 7 ∷ 8 ∷ 9 ∷ 10 ∷ 11 ∷ 12 ∷ []

@@ -15,7 +15,7 @@ use Rattle.scheduler.specs.State.{eventCount, eventAt, blankEvent, holds
 use Rattle.scheduler.specs.Rules.{forbidden, owing}
 use Rattle.scheduler.specs.Orders.{ready, mayDo, doAll, Runs, Different, Viable, Ahead, First, orderOf, chosen, someOrder, hasViable}
 use Rattle.scheduler.specs.Demand.{Sized}
-use Rattle.scheduler.proofs.Tests.{and-left, and-right, and-both, either, clash, any-some, any-found, first-none, first-some, when-none, when-some, some-none}
+use Rattle.scheduler.proofs.Tests.{or-right-true, or-either, and-left, and-right, and-both, either, clash, any-some, any-found, first-none, first-some, when-none, when-some, some-none}
 use Rattle.scheduler.proofs.Laws.{fate-past, plan-settle, fate-settle-same, fate-settle-either, sized-settle}
 
 -- an event that may be done is unsettled, and past the array there is none: the blank event is open and not forcible
@@ -98,10 +98,6 @@ abbrev pub has : ℕ → Bool → List ℕ → Bool
 has e had [] = had
 has e had (c ∷ o) = has e (had || eqb c e) o
 
-or-true : (b : Bool) → (b || true) ≡ true
-or-true true = refl
-or-true false = refl
-
 had-has : (e : ℕ) (o : List ℕ) → has e true o ≡ true
 had-has e [] = refl
 had-has e (c ∷ o) = had-has e o
@@ -109,13 +105,9 @@ had-has e (c ∷ o) = had-has e o
 pub mem-has : (e : ℕ) (had : Bool) (o : List ℕ) → List·Memᴰ e o → has e had o ≡ true
 mem-has e had [] m = absurd (List·Memᴰ·not-nil m)
 mem-has e had (c ∷ o) m = elim (List·Memᴰ·cases-cons m) [
-  | inl q ↦ rw (eq-eqb c e (sym q), or-true had) (had-has e o)
+  | inl q ↦ rw (eq-eqb c e (sym q), or-right-true had) (had-has e o)
   | inr m′ ↦ mem-has e (had || eqb c e) o m′
 ]
-
-or-either : (a b : Bool) → (a || b) ≡ true → (a ≡ true) ⊎ (b ≡ true)
-or-either true b h = inl refl
-or-either false b h = inr h
 
 has-mem : (e : ℕ) (had : Bool) (o : List ℕ) → has e had o ≡ true → (had ≡ true) ⊎ List·Memᴰ e o
 has-mem e had [] h = inl h

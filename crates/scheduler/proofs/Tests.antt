@@ -31,6 +31,14 @@ or-right false b h = h
 pub or-both : (a b : Bool) → a ≡ false → b ≡ false → (a || b) ≡ false
 or-both a b p q = rw (p, q)
 
+pub or-right-true : (b : Bool) → (b || true) ≡ true
+or-right-true true = refl
+or-right-true false = refl
+
+pub or-either : (a b : Bool) → (a || b) ≡ true → (a ≡ true) ⊎ (b ≡ true)
+or-either true b h = inl refl
+or-either false b h = inr h
+
 pub and-not : (a b : Bool) → (a && b) ≡ false → a ≡ true → b ≡ false
 and-not true b h e = h
 and-not false b h e = absurd (let z : _≡_ {A = ℕ} 0 1 = cc in omega arith)
@@ -66,11 +74,7 @@ all-of (suc n) p h = and-both (p n) (allBelow n p) (h n (omega arith)) (all-of n
 pub any-some : (n : ℕ) (p : ℕ → Bool) (i : ℕ) → i < n → p i ≡ true → anyBelow n p ≡ true
 unfolding anyBelow
 any-some zero p i lt h = absurd (omega arith)
-any-some (suc n) p i lt h = elim (ℕ-discrete i n) [ yes e ↦ rw (← e, h) | no ne ↦ rw (any-some n p i (omega arith) h) (or-true-right (p n)) ]
-  where
-    or-true-right : (b : Bool) → (b || true) ≡ true
-    or-true-right true = refl
-    or-true-right false = refl
+any-some (suc n) p i lt h = elim (ℕ-discrete i n) [ yes e ↦ rw (← e, h) | no ne ↦ rw (any-some n p i (omega arith) h) (or-right-true (p n)) ]
 
 -- a number that passes
 pub any-found : (n : ℕ) (p : ℕ → Bool) → anyBelow n p ≡ true → (i : ℕ) × (i < n) × (p i ≡ true)
@@ -146,6 +150,11 @@ pub count-same : (n : ℕ) (p q : ℕ → Bool) → ((i : ℕ) → i < n → p i
 unfolding countBelow
 count-same zero p q h = refl
 count-same (suc n) p q h = rw (h n (omega arith), count-same n p q (λ i lt. h i (omega arith)))
+
+pub count-zero : (n : ℕ) (t : ℕ → Bool) → ((e : ℕ) → e < n → t e ≡ false) → countBelow n t ≡ 0
+unfolding countBelow
+count-zero zero t h = refl
+count-zero (suc n) t h = rw (h n (omega arith), count-zero n t (λ e l. h e (omega arith)))
 
 -- one number more passes
 pub count-more : (n : ℕ) (p q : ℕ → Bool) (e : ℕ) → e < n → p e ≡ false → q e ≡ true → ((i : ℕ) → i ≢ e → p i ≡ q i) → countBelow n q ≡ suc (countBelow n p)

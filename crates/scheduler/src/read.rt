@@ -89,7 +89,8 @@ impl State {
             return EventRead::Undeclared;
         }
         if event < 16 {
-            EventRead::Is(events[event as usize])
+            let found = events[event as usize];
+            EventRead::Is(found)
         } else {
             EventRead::Undeclared
         }
@@ -117,11 +118,13 @@ impl State {
         ensures { λ r. ⌜ r ≡ lineRead self line ⌝ }
     {
         let history = self.history;
-        if self.history_len <= line {
+        let len = self.history_len;
+        if len <= line {
             return EntryRead::Undeclared;
         }
         if line < 16 {
-            EntryRead::Is(history[line as usize])
+            let entry = history[line as usize];
+            EntryRead::Is(entry)
         } else {
             EntryRead::Undeclared
         }

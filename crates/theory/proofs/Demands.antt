@@ -19,7 +19,7 @@ use Rattle.scheduler.specs.Calls.{strains, doAlone, submit, closeStep, finish}
 use Rattle.scheduler.specs.Faults.{firstFault, declaredOnly, coherent, hasEvent, Call, submitting, closing, finishing, callFault, Reply, accept, call, isTurnedDown}
 use Rattle.scheduler.specs.Sheet.{readSheet, admitted}
 use Rattle.scheduler.specs.Demand.{Scheduler, after, Story, seen, Observed, nothingYet, waitsAs, observedFate, stateOf, accepted, startsDone, doneAlone, against, newlyRecorded, shows, onlyHistory, observe, observeAll, broken, unbreakable, Holds, Extends, Grows, Demand3, Keeps, scheduler, Sized}
-use Rattle.scheduler.proofs.Tests.{clash, either, or-left, or-right, or-both, and-left, and-right, and-both, and-not, any-false, any-none, any-some, any-found, all-at, all-of, count-same}
+use Rattle.scheduler.proofs.Tests.{clash, either, or-either, count-zero, or-left, or-right, or-both, and-left, and-right, and-both, and-not, any-false, any-none, any-some, any-found, all-at, all-of}
 use Rattle.scheduler.proofs.Laws.{open-is, fate-hold-same, fate-hold-other, plan-hold, closed-hold, broken-hold, lines-hold, broken-settle, fate-shut, broken-shut, lines-shut, closed-shut-same, closed-shut-other}
 use Rattle.scheduler.proofs.Branches.{submit-same, call-fault, call-accept}
 use Rattle.theory.proofs.Sound.{Sound}
@@ -30,7 +30,7 @@ use Rattle.theory.proofs.Good.{Later, Good, Resting, tidy-shut, strict-
 use Rattle.theory.proofs.Submit.{strict-hold, Recorded, alone-recorded, Manner, ordered, waited, alone, Handed, submit-good}
 use Rattle.theory.proofs.Coherent.{rule-holds, good-coherent}
 use Rattle.theory.proofs.Passes.{call-taken, fault-answer}
-use Rattle.theory.proofs.Shown.{Agrees, fates-observed, fate-observed, shown, alone-new, same-test, or-true, or-in, among-append, those-in, those-only}
+use Rattle.theory.proofs.Shown.{Agrees, fates-observed, fate-observed, shown, alone-new, same-test, or-in, among-append, those-in, those-only}
 
 -- the invariant of a list: what is observed so far, and the state
 pub record At (p : Plan) (o : Observed) (s : State) : Type 0 where
@@ -55,17 +55,12 @@ module _ (p : Plan) (sd : Sound p) where
   none-done : (e : ℕ) → isDone (fateOf (firstState p) e) ≡ false
   none-done e = ap isDone (all-open e)
 
-  count-zero : (n : ℕ) → countBelow n (λ e. false) ≡ 0
-  unfolding countBelow
-  count-zero zero = refl
-  count-zero (suc n) = ap (λ m. 0 + m) (count-zero n)
-
   first-books : Books p (firstState p)
   unfolding fatesIn declaredOnly
   first-books = record {
     shape = record { same-plan = refl; sized = record { standings-len = length-replicate 16 blankStanding; broken-len = length-replicate 16 false; closed-len = length-replicate 8 false; history-len = length-replicate 16 blankEntry } };
     few = sd .few-events;
-    tally = sym (count-same (eventCount p) (λ e. isSettled (fateOf (firstState p) e)) (λ e. false) (λ e l. ap isSettled (all-open e)) ∙ count-zero (eventCount p));
+    tally = sym (count-zero (eventCount p) (λ e. isSettled (fateOf (firstState p) e)) (λ e l. ap isSettled (all-open e)));
     listed = λ e l. sym (ap (λ x. fateIf (isSettled x) x) (all-open e));
     only = refl;
   }
@@ -277,7 +272,7 @@ module _ {p : Plan} {o : Observed} {s : State} (sd : Sound p) (k : At p o s) whe
           | inl y ↦ inr (sym (before i l) ∙ y)
           | inr y ↦ inl (those-in (ruleCount p) (against p (hold (stateOf p o) e) e) i (y .0) (against-strains i ∙ y .1))
         ]))
-        (λ a. elim (or-true (among i news) (among i (o .recorded)) (sym (among-append i news (o .recorded)) ∙ a)) [
+        (λ a. elim (or-either (among i news) (among i (o .recorded)) (sym (among-append i news (o .recorded)) ∙ a)) [
           | inl y ↦ let v = those-only (ruleCount p) (against p (hold (stateOf p o) e) e) i y in r .new i (v .0) (sym (against-strains i) ∙ v .1)
           | inr y ↦ r .kept i (before i l ∙ y)
         ])

@@ -17,7 +17,7 @@ use Rattle.scheduler.specs.State.{eventCount, ruleCount, stepOf, ruleAt, delaya
 use Rattle.scheduler.specs.Rules.{soundEvent, soundRule, fateIf, fatesIn, doneInTurn, owes, holds}
 use Rattle.scheduler.specs.Faults.{isTurnedDown, firstFault, declaredOnly, sameFates, listed, coherentEvent, coherentRule, coherent, Call, submitting, closing, finishing, hasEvent, callFault, Reply, accept, call}
 use Rattle.scheduler.specs.Demand.{Sized}
-use Rattle.scheduler.proofs.Tests.{clash, either, and-left, and-right, and-not, all-at, count-more, some-none}
+use Rattle.scheduler.proofs.Tests.{count-zero, clash, either, and-left, and-right, and-not, all-at, count-more, some-none}
 use Rattle.scheduler.proofs.Branches.{submit-same, call-fault, call-accept}
 use Rattle.theory.proofs.Sound.{Sound}
 use Rattle.theory.proofs.Books.{Books, same-events}
@@ -55,11 +55,6 @@ one-zero false h = refl
 one-more : (b : Bool) (n : ℕ) → suc n ≡ oneIf b → (b ≡ true) × (n ≡ 0)
 one-more true n h = (refl, omega arith)
 one-more false n h = absurd (omega arith)
-
-count-zero : (n : ℕ) (t : ℕ → Bool) → ((e : ℕ) → e < n → t e ≡ false) → countBelow n t ≡ 0
-unfolding countBelow
-count-zero zero t h = refl
-count-zero (suc n) t h = rw (h n (omega arith), count-zero n t (λ e l. h e (omega arith)))
 
 -- the test without the event a
 abbrev butFor : ℕ → (ℕ → Bool) → ℕ → Bool

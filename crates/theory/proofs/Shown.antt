@@ -17,7 +17,7 @@ use Rattle.scheduler.specs.State.{eventCount, fateOf, brokenAt, closedAt, lineC
 use Rattle.scheduler.specs.Rules.{fateIf, fatesIn}
 use Rattle.scheduler.specs.Orders.{hasViable}
 use Rattle.scheduler.specs.Demand.{Observed, waitsAs, observedFate, stateOf, startsDone, doneAlone}
-use Rattle.scheduler.proofs.Tests.{clash, either}
+use Rattle.scheduler.proofs.Tests.{clash, either, or-either}
 use Rattle.theory.proofs.Books.{Books, Tidy, len-le, unlisted}
 
 -- lists made from a function
@@ -97,10 +97,6 @@ same-test true b p q = sym (p refl)
 same-test false true p q = q refl
 same-test false false p q = refl
 
-pub or-true : (a b : Bool) → (a || b) ≡ true → (a ≡ true) ⊎ (b ≡ true)
-or-true true b h = inl refl
-or-true false b h = inr h
-
 pub or-in : (a b : Bool) → (a ≡ true) ⊎ (b ≡ true) → (a || b) ≡ true
 or-in true b h = refl
 or-in false b (inl h) = absurd (clash h refl)
@@ -133,5 +129,5 @@ unfolding among thoseBelow
 those-only zero p i h = absurd (clash h refl)
 those-only (suc n) p i h = elim (either (p n)) [
   | inr z ↦ let r = those-only n p i (rw (those-no n p z) at h) in (omega (arith, r .0), r .1)
-  | inl z ↦ elim (or-true (eqb i n) (among i (thoseBelow n p)) (rw (those-yes n p z) at h)) [ inl q ↦ (omega (arith, eqb-true i n q), rw (eqb-true i n q) z) | inr q ↦ let r = those-only n p i q in (omega (arith, r .0), r .1) ]
+  | inl z ↦ elim (or-either (eqb i n) (among i (thoseBelow n p)) (rw (those-yes n p z) at h)) [ inl q ↦ (omega (arith, eqb-true i n q), rw (eqb-true i n q) z) | inr q ↦ let r = those-only n p i q in (omega (arith, r .0), r .1) ]
 ]

@@ -9,11 +9,11 @@ returns : tie.Need-returns
 unfolding eventRead
 returns c = simp (eventRead, le-ltb _ _ (c .if1 .taken))
 
-mul-t8 : tie.Need-mul-t8
-mul-t8 c = search needs
+mul-found : tie.Need-mul-found
+mul-found c = search needs
 
-array-copy-out-t11 : tie.Need-array-copy-out-t11
-array-copy-out-t11 c = search needs
+array-copy-out-found : tie.Need-array-copy-out-found
+array-copy-out-found c = search needs
 
 returns-2 : tie.Need-returns-2
 unfolding eventRead
@@ -24,4 +24,4 @@ unfolding eventRead
 returns-3 c = simp (eventRead, lt-ltb _ _ (c .before .if1 .left), le-ltb _ _ (c .if2 .left))
 
 pub read-event-spec : {M : Type 1} → statement M
-read-event-spec = tie.close (tie.spec returns mul-t8 array-copy-out-t11 returns-2 returns-3)
+read-event-spec = tie.close (tie.spec returns mul-found array-copy-out-found returns-2 returns-3)

@@ -9,11 +9,11 @@ returns : tie.Need-returns
 unfolding lineRead
 returns c = simp (lineRead, le-ltb _ _ (c .if1 .taken))
 
-mul-t7 : tie.Need-mul-t7
-mul-t7 c = search needs
+mul-entry : tie.Need-mul-entry
+mul-entry c = search needs
 
-array-copy-out-t10 : tie.Need-array-copy-out-t10
-array-copy-out-t10 c = search needs
+array-copy-out-entry : tie.Need-array-copy-out-entry
+array-copy-out-entry c = search needs
 
 returns-2 : tie.Need-returns-2
 unfolding lineRead
@@ -24,4 +24,4 @@ unfolding lineRead
 returns-3 c = simp (lineRead, lt-ltb _ _ (c .before .if1 .left), le-ltb _ _ (c .if2 .left))
 
 pub read-line-spec : {M : Type 1} → statement M
-read-line-spec = tie.close (tie.spec returns mul-t7 array-copy-out-t10 returns-2 returns-3)
+read-line-spec = tie.close (tie.spec returns mul-entry array-copy-out-entry returns-2 returns-3)
