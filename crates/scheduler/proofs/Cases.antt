@@ -117,7 +117,7 @@ cases =
     -- settling goes on: four events waited for 4
     ∷ (times 4 (1 ∷ 0 ∷ 6 ∷ []) ++ (1 ∷ 1 ∷ 6 ∷ 2 ∷ 4 ∷ 0 ∷ 2 ∷ 4 ∷ 1 ∷ 2 ∷ 4 ∷ 2 ∷ 2 ∷ 4 ∷ 3 ∷ 5 ∷ []), submitting 3 ∷ submitting 2 ∷ submitting 1 ∷ submitting 0 ∷ closing 1 ∷ [], ran (Is Held ∷ Is Held ∷ Is Held ∷ Is Held ∷ Made ∷ []) ((4, Lapsed) ∷ (0, Done) ∷ (1, Done) ∷ (2, Done) ∷ (3, Done) ∷ []) (replicate 4 false))
     -- winding up goes on: two pairs as in H
-    ∷ (times 4 (1 ∷ 7 ∷ 6 ∷ []) ++ (2 ∷ 0 ∷ 1 ∷ 2 ∷ 1 ∷ 0 ∷ 2 ∷ 2 ∷ 3 ∷ 2 ∷ 3 ∷ 2 ∷ 5 ∷ []), submitting 0 ∷ submitting 1 ∷ submitting 2 ∷ submitting 3 ∷ finishing ∷ closing 7 ∷ closing 7 ∷ finishing ∷ finishing ∷ [], ran (Is Held ∷ Is Held ∷ Is Held ∷ Is Held ∷ TurnedDown NotClosed ∷ Made ∷ TurnedDown AlreadyClosed ∷ Made ∷ Made ∷ []) ((0, Refused) ∷ (1, Done) ∷ (2, Refused) ∷ (3, Done) ∷ []) (replicate 4 false))
+    ∷ (times 4 (1 ∷ 7 ∷ 6 ∷ []) ++ (2 ∷ 0 ∷ 1 ∷ 2 ∷ 1 ∷ 0 ∷ 2 ∷ 2 ∷ 3 ∷ 2 ∷ 3 ∷ 2 ∷ 5 ∷ []), submitting 0 ∷ submitting 1 ∷ submitting 2 ∷ submitting 3 ∷ finishing ∷ closing 7 ∷ closing 7 ∷ finishing ∷ [], ran (Is Held ∷ Is Held ∷ Is Held ∷ Is Held ∷ TurnedDown NotClosed ∷ Made ∷ TurnedDown AlreadyClosed ∷ Made ∷ []) ((0, Refused) ∷ (1, Done) ∷ (2, Refused) ∷ (3, Done) ∷ []) (replicate 4 false))
     -- an event that is not delayable goes by its own order before anything is settled: 1, 0, where A has 0, 1
     ∷ (1 ∷ 0 ∷ 6 ∷ 1 ∷ 0 ∷ 0 ∷ 3 ∷ 0 ∷ 1 ∷ 5 ∷ [], submitting 0 ∷ submitting 1 ∷ [], ran (Is Held ∷ Is Done ∷ []) ((1, Done) ∷ (0, Done) ∷ []) (false ∷ []))
     -- a forced b that is delayable waits too (need 0, 1, order 2, 1): 0 is done alone. Its recorded rule owes no more: 3 is done
