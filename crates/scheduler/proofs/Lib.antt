@@ -1,5 +1,8 @@
 pub mod Tests
 pub mod Laws
+pub mod Parts
+pub mod Scan
+pub mod Histories
 pub mod Branches
 pub mod Searching
 pub mod Settling

@@ -3,7 +3,9 @@ pub mod Base
 pub mod State
 pub mod Readers
 pub mod Rules
+pub mod Parts
 pub mod Orders
+pub mod Found
 pub mod Calls
 pub mod Faults
 pub mod Sheet

@@ -17,13 +17,8 @@ use Rattle.scheduler.specs.Rules.{fateIf, fatesIn}
 use Rattle.scheduler.specs.Faults.{declaredOnly}
 use Rattle.scheduler.specs.Demand.{Sized}
 use Rattle.scheduler.proofs.Tests.{clash, and-left, and-right, and-both, count-le, count-same, count-more}
+use Rattle.scheduler.proofs.Histories.{fates-append}
 use Rattle.scheduler.proofs.Laws.{plan-settle, fate-settle-same, fate-settle-other, sized-settle, len-settle, lines-settle, line-settle-other, plan-hold, fate-hold-same, fate-hold-other, sized-hold, len-hold, lines-hold, history-hold}
-
--- the fates that a history gives, with one line more
-pub fates-append : (h : List Entry) (l : Entry) (e : ℕ) → fatesIn (h ++ (l ∷ [])) e ≡ fatesIn h e ++ fateIf (eqb (l .event) e) (l .fate)
-unfolding fatesIn
-fates-append [] l e = append-nil (fateIf (eqb (l .event) e) (l .fate))
-fates-append (k ∷ h) l e = rw (fates-append h l e, append-assoc)
 
 pub declared-append : (h : List Entry) (l : Entry) (n : ℕ) → declaredOnly h n ≡ true → l .event < n → declaredOnly (h ++ (l ∷ [])) n ≡ true
 unfolding declaredOnly

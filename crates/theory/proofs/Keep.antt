@@ -14,10 +14,11 @@ use Rattle.scheduler.specs.Rules.{named, enforceable, soundRule, fateIf, anyDon
 use Rattle.scheduler.specs.Orders.{ready, mayDo}
 use Rattle.scheduler.specs.Demand.{unbreakable}
 use Rattle.scheduler.proofs.Tests.{clash, either, or-left, or-right, or-both, and-left, and-right, and-both, and-not, any-false}
+use Rattle.scheduler.proofs.Histories.{doneIn-append, doneIn-cons}
 use Rattle.scheduler.proofs.Laws.{fate-settle-other, broken-settle}
 use Rattle.scheduler.proofs.Searching.{ready-unsettled}
 use Rattle.theory.proofs.Sound.{Sound}
-use Rattle.theory.proofs.Books.{Shape, Books, fates-append, fate-then, lines-then, same-events}
+use Rattle.theory.proofs.Books.{Shape, Books, fate-then, lines-then, same-events}
 
 -- tests
 joined : (p q r : Bool) → (p && r) ≡ false → (q && r) ≡ false → ((p || q) && r) ≡ false
@@ -40,25 +41,6 @@ differ e a b n = go (eqb e a) refl
     go : (t : Bool) → eqb e a ≡ t → (eqb e a && eqb e b) ≡ false
     go true q = rw (q, eqb-true e a q) n
     go false q = rw q
-
--- one more line
-done-append : (xs ys : List Fate) → anyDone (xs ++ ys) ≡ (anyDone xs || anyDone ys)
-unfolding anyDone
-done-append [] ys = refl
-done-append (x ∷ xs) ys = rw (done-append xs ys) (sym (or-assoc (isDone x) (anyDone xs) (anyDone ys)))
-
-done-if : (t : Bool) (x : Fate) → anyDone (fateIf t x) ≡ (t && isDone x)
-unfolding anyDone
-done-if true x = or-false (isDone x)
-done-if false x = refl
-
-doneIn-append : (h : List Entry) (l : Entry) (e : ℕ) → doneIn (h ++ (l ∷ [])) e ≡ (doneIn h e || (eqb (l .event) e && isDone (l .fate)))
-unfolding doneIn
-doneIn-append h l e = rw (fates-append h l e, done-append, done-if)
-
-doneIn-cons : (h : List Entry) (k : Entry) (e : ℕ) → doneIn (k ∷ h) e ≡ ((eqb (k .event) e && isDone (k .fate)) || doneIn h e)
-unfolding doneIn fatesIn
-doneIn-cons h k e = rw (done-append, done-if)
 
 -- b is not done last after a
 pub turn-append : (h : List Entry) (l : Entry) (a b : ℕ) → doneInTurn h a b ≡ false → (doneIn h a ≡ true → (eqb (l .event) b && isDone (l .fate)) ≡ false) → doneInTurn (h ++ (l ∷ [])) a b ≡ false

@@ -1,0 +1,117 @@
+// Runs the reader and the search on small sheets and prints what comes of each: the gate compares it with the file `stdout`.
+use libc::STDOUT_FILENO;
+use scheduler::answer::Fault;
+use scheduler::answer::Verdict;
+use scheduler::event::Fate;
+use scheduler::order::Found;
+use scheduler::state::Standing;
+use scheduler::state::State;
+
+fn number_of(fault: Fault) -> u64 {
+    match fault {
+        Fault::Cut => 1,
+        Fault::BadKind => 2,
+        Fault::Full => 3,
+        Fault::BadStep => 4,
+        Fault::BadAttributes => 5,
+        Fault::BadNames => 6,
+        Fault::Unenforceable => 7,
+        Fault::Extra => 8,
+        Fault::Unknown => 9,
+        Fault::AlreadyClosed => 10,
+        Fault::NotClosed => 11,
+        Fault::Incoherent => 12,
+    }
+}
+
+// What a sheet comes to.
+fn show_reading(name: &[u8], sheet: &[u8]) {
+    io::write_all(STDOUT_FILENO, name);
+    let reading = sheet::read::read_sheet(sheet);
+    let verdict = reading.verdict;
+    match verdict {
+        Verdict::Admitted => {
+            io::write_all(STDOUT_FILENO, b" admitted\n");
+        }
+        Verdict::Refused(fault, at) => {
+            io::write_all(STDOUT_FILENO, b" refused ");
+            io::print_decimal(STDOUT_FILENO, number_of(fault));
+            io::write_all(STDOUT_FILENO, b" at ");
+            io::print_decimal(STDOUT_FILENO, at as u64);
+            io::write_all(STDOUT_FILENO, b"\n");
+        }
+    }
+}
+
+// Every event held.
+fn all_held(state: State) -> State {
+    let mut next = state;
+    next.standings = [Standing { fate: Fate::Held }; 16];
+    next
+}
+
+// An order's event in a place, if the order is so long.
+fn show_event(found: Found, place: u8) {
+    let events = found.events;
+    if place < found.len {
+        if place < 6 {
+            io::write_all(STDOUT_FILENO, b" ");
+            io::print_decimal(STDOUT_FILENO, events[place as usize] as u64);
+        }
+    }
+}
+
+// The chosen order for an event of a sheet whose events are all held.
+fn show_order(name: &[u8], sheet: &[u8], event: u8) {
+    io::write_all(STDOUT_FILENO, name);
+    let reading = sheet::read::read_sheet(sheet);
+    let state = all_held(reading.state);
+    let found = state.find_order(event);
+    if !found.ok {
+        io::write_all(STDOUT_FILENO, b" none\n");
+        return;
+    }
+    show_event(found, 0);
+    show_event(found, 1);
+    show_event(found, 2);
+    show_event(found, 3);
+    show_event(found, 4);
+    show_event(found, 5);
+    io::write_all(STDOUT_FILENO, b"\n");
+}
+
+fn main() {
+    show_reading(
+        b"A",
+        b"\x01\x00\x06\x01\x01\x06\x02\x00\x01\x03\x00\x01\x05",
+    );
+    show_reading(b"F", b"\x01\x00\x01\x01\x01\x06\x03\x00\x01\x05");
+    show_reading(b"no bytes", b"");
+    show_reading(b"end", b"\x05");
+    show_reading(b"end twice", b"\x05\x05");
+    show_reading(b"delayable alone", b"\x01\x00\x04\x05");
+    show_reading(
+        b"17 events",
+        b"\x06\x00\x06\x01\x06\x02\x06\x03\x01\x09\x09",
+    );
+    show_order(
+        b"J, a ring of six:",
+        b"\x01\x00\x06\x01\x00\x06\x01\x00\x06\x01\x00\x06\x01\x00\x06\x01\x00\x06\x03\x00\x01\x03\x01\x02\x03\x02\x03\x03\x03\x04\x03\x04\x05\x03\x05\x00\x05",
+        0,
+    );
+    show_order(
+        b"J, a ring of seven:",
+        b"\x01\x00\x06\x01\x00\x06\x01\x00\x06\x01\x00\x06\x01\x00\x06\x01\x00\x06\x01\x00\x06\x03\x00\x01\x03\x01\x02\x03\x02\x03\x03\x03\x04\x03\x04\x05\x03\x05\x06\x03\x06\x00\x05",
+        0,
+    );
+    show_order(
+        b"K, 0:",
+        b"\x01\x00\x06\x01\x00\x06\x01\x00\x06\x01\x00\x06\x01\x00\x06\x01\x00\x06\x01\x00\x06\x03\x00\x01\x03\x01\x02\x03\x02\x03\x03\x03\x04\x03\x04\x05\x03\x05\x06\x05",
+        0,
+    );
+    show_order(
+        b"K, 1:",
+        b"\x01\x00\x06\x01\x00\x06\x01\x00\x06\x01\x00\x06\x01\x00\x06\x01\x00\x06\x01\x00\x06\x03\x00\x01\x03\x01\x02\x03\x02\x03\x03\x03\x04\x03\x04\x05\x03\x05\x06\x05",
+        1,
+    );
+}

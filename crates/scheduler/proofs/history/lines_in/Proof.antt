@@ -1,0 +1,13 @@
+-- `lines_in` meets its contract.
+use borrow.Author.Tests.{lt-ltb, le-ltb}
+use Rattle.scheduler.proofs.history.lines_in.Statement.{statement}
+use Rattle.scheduler.proofs.history.lines_in.Tie as tie
+
+returns : tie.Need-returns
+returns c = simp (lt-ltb _ _ (c .if1 .taken))
+
+returns-2 : tie.Need-returns-2
+returns-2 c = simp (le-ltb _ _ (c .if1 .left))
+
+pub lines-in-spec : {M : Type 1} → statement M
+lines-in-spec = tie.close (tie.spec returns returns-2)

@@ -1,0 +1,4 @@
+pub mod Pieces
+pub mod Rows
+pub mod Passed
+pub mod Reading

@@ -1,0 +1,76 @@
+-- The table's rows that a record's check goes through, one law for each answer.
+use Prim.Native.Nat.{ℕ, _+_, _-_, _≤_, _<_}
+use mathlib.Core.Bool.{Bool, true, false, _&&_, _||_}
+use mathlib.Core.Path.{_≡_}
+use native.Mathlib.Omega.{arith}
+use borrow.Author.Tests.{lt-ltb, le-ltb, le-leb, lt-leb, eq-eqb, ne-eqb}
+use lib.Dec.{eqb, ltb}
+use Rattle.scheduler.specs.Rules.{badStep, badAttributes, named, enforceable}
+use Rattle.scheduler.specs.Faults.{firstFault}
+use Rattle.scheduler.specs.Sheet.{bodyLength, newRules, ruleOf, recordFault}
+use Rattle.sheet.specs.Types.{Rule, Plan, Cut, BadKind, Full, BadStep, BadAttributes, BadNames, Unenforceable, Record, Fine, Bad}
+use Rattle.sheet.specs.Progress.{isFull, ruleFault, bodyFault, faultOf, checkOf}
+
+-- the conditions; that on the attributes also as the code has it, over what its call answered
+abbrev kindRow : Record → Bool
+kindRow r = eqb (r .kind) 0 || ltb 6 (r .kind)
+
+abbrev stepRow : Record → Bool
+stepRow r = (eqb (r .kind) 1 || eqb (r .kind) 6) && badStep (r .x)
+
+abbrev attributesRow : Record → Bool
+attributesRow r = eqb (r .kind) 1 && badAttributes (r .y)
+
+pub attributes-row : (r : Record) (t : Bool) → t ≡ badAttributes (r .y) → attributesRow r ≡ (eqb (r .kind) 1 && t)
+attributes-row r t e = rw e
+
+module _ (p : Plan) (r : Rule) (size : ℕ) where
+  pub bad-names : named p r ≡ false → Bad BadNames ≡ checkOf (ruleFault p r) size
+  unfolding ruleFault firstFault
+  bad-names a = simp a
+
+  pub bad-rule : named p r ≡ true → enforceable p r ≡ false → Bad Unenforceable ≡ checkOf (ruleFault p r) size
+  unfolding ruleFault firstFault
+  bad-rule a b = simp (a, b)
+
+  pub fine-rule : named p r ≡ true → enforceable p r ≡ true → Fine size ≡ checkOf (ruleFault p r) size
+  unfolding ruleFault firstFault
+  fine-rule a b = simp (a, b)
+
+module _ (p : Plan) (r : Record) (size : ℕ) where
+  pub bad-step : stepRow r ≡ true → Bad BadStep ≡ checkOf (bodyFault p r) size
+  unfolding bodyFault firstFault
+  bad-step a = simp a
+
+  pub bad-attributes : stepRow r ≡ false → attributesRow r ≡ true → Bad BadAttributes ≡ checkOf (bodyFault p r) size
+  unfolding bodyFault firstFault
+  bad-attributes a b = simp (a, b)
+
+  pub rule-next : (q : Rule) → q ≡ ruleOf (r .kind) (r .x) (r .y) (r .z) → stepRow r ≡ false → attributesRow r ≡ false → newRules (r .kind) ≡ 1 → checkOf (ruleFault p q) size ≡ checkOf (bodyFault p r) size
+  unfolding bodyFault ruleFault firstFault
+  rule-next q e a b d = simp (e, a, b, eq-eqb (newRules (r .kind)) 1 d)
+
+  pub fine-event : stepRow r ≡ false → attributesRow r ≡ false → (newRules (r .kind) ≡ 1 → ⊥) → Fine size ≡ checkOf (bodyFault p r) size
+  unfolding bodyFault firstFault
+  fine-event a b d = simp (a, b, ne-eqb (newRules (r .kind)) 1 d)
+
+module _ (p : Plan) (len at : ℕ) (r : Record) (size : ℕ) where
+  pub no-record : len ≤ at → Bad Cut ≡ checkOf (faultOf p len at r) size
+  unfolding recordFault firstFault
+  no-record a = simp (le-leb len at a)
+
+  pub bad-kind : at < len → kindRow r ≡ true → Bad BadKind ≡ checkOf (faultOf p len at r) size
+  unfolding recordFault firstFault
+  bad-kind a b = simp (lt-leb len at a, b)
+
+  pub cut-record : at < len → kindRow r ≡ false → len - at < 1 + bodyLength (r .kind) → Bad Cut ≡ checkOf (faultOf p len at r) size
+  unfolding recordFault firstFault
+  cut-record a b d = simp (lt-leb len at a, b, lt-ltb len (at + 1 + bodyLength (r .kind)) (omega arith))
+
+  pub full : at < len → kindRow r ≡ false → 1 + bodyLength (r .kind) ≤ len - at → isFull p (r .kind) ≡ true → Bad Full ≡ checkOf (faultOf p len at r) size
+  unfolding recordFault firstFault
+  full a b d e = simp (lt-leb len at a, b, le-ltb len (at + 1 + bodyLength (r .kind)) (omega arith), e)
+
+  pub body-next : (n : ℕ) → n ≡ size → at < len → kindRow r ≡ false → 1 + bodyLength (r .kind) ≤ len - at → isFull p (r .kind) ≡ false → checkOf (bodyFault p r) n ≡ checkOf (faultOf p len at r) size
+  unfolding recordFault firstFault bodyFault
+  body-next n en a b d e = simp (en, lt-leb len at a, b, le-ltb len (at + 1 + bodyLength (r .kind)) (omega arith), e)

@@ -1,0 +1,72 @@
+-- What the functions below `read_sheet` answer, over the definitions of `scheduler`.
+use Prim.Native.Nat.{ℕ, _+_, _≤_, _<_}
+use mathlib.Core.Bool.{Bool, true, false, not, _&&_, _||_}
+use mathlib.Core.List.{List, [], _∷_}
+use mathlib.Core.Option.{Option, none, some}
+use mathlib.Core.Path.{_≡_}
+use lib.Dec.{eqb, ltb}
+use lib.ListN.{getD}
+use Rattle.scheduler.specs.State.{eventCount, ruleCount, firstState, emptyState}
+use Rattle.scheduler.specs.Rules.{badStep, badAttributes, named, enforceable}
+use Rattle.scheduler.specs.Faults.{firstFault}
+use Rattle.scheduler.specs.Sheet.{bodyLength, newEvents, newRules, isRule, ruleOf, declare, recordFault}
+use Rattle.sheet.specs.Types.{Rule, Plan, Fault, BadStep, BadAttributes, BadNames, Unenforceable, Extra, Verdict, Admitted, Faulty, Reading, Record, Check, Fine, Bad, Progress}
+
+-- the bytes at an offset; those past the end are 0
+abbrev pub recordAt : List ℕ → ℕ → Record
+recordAt b at = record { kind = getD b at 0; x = getD b (at + 1) 0; y = getD b (at + 2) 0; z = getD b (at + 3) 0 }
+
+-- row 3; rows 6 and 7 of a rule; the rows from 4 on
+abbrev pub isFull : Plan → ℕ → Bool
+isFull p k = ltb 16 (eventCount p + newEvents k) || ltb 16 (ruleCount p + newRules k)
+
+unfoldable pub ruleFault : Plan → Rule → Option Fault
+ruleFault p r = firstFault ((not (named p r), BadNames) ∷ (not (enforceable p r), Unenforceable) ∷ [])
+
+unfoldable pub bodyFault : Plan → Record → Option Fault
+bodyFault p r =
+    firstFault (
+    ((eqb (r .kind) 1 || eqb (r .kind) 6) && badStep (r .x), BadStep)
+    ∷ (eqb (r .kind) 1 && badAttributes (r .y), BadAttributes)
+    ∷ (isRule (r .kind) && not (named p (ruleOf (r .kind) (r .x) (r .y) (r .z))), BadNames)
+    ∷ (isRule (r .kind) && not (enforceable p (ruleOf (r .kind) (r .x) (r .y) (r .z))), Unenforceable)
+    ∷ [])
+
+-- the whole table, as `scheduler` defines it
+abbrev pub faultOf : Plan → ℕ → ℕ → Record → Option Fault
+faultOf p len at r = recordFault p len at (r .kind) (r .x) (r .y) (r .z)
+
+-- a check's answer: the first fault, or the record's bytes
+abbrev pub checkOf : Option Fault → ℕ → Check
+checkOf none size = Fine size
+checkOf (some f) size = Bad f
+
+abbrev pub verdictOf : Check → ℕ → Verdict
+verdictOf (Fine size) at = Admitted
+verdictOf (Bad f) at = Faulty f at
+
+-- the plan has a place for what a record of kind k declares
+pub record Room (p : Plan) (k : ℕ) : Type 0 where
+  pub one : k ≡ 1 → eventCount p < 16
+  pub four : k ≡ 6 → eventCount p + 4 ≤ 16
+  pub rule : (k ≡ 1 → ⊥) → (k ≡ 6 → ⊥) → ruleCount p < 16
+
+-- bytes after kind 5
+abbrev pub endVerdict : ℕ → ℕ → Verdict
+endVerdict len at = elim (ltb (at + 1) len) [ true ↦ Faulty Extra (at + 1) | false ↦ Admitted ]
+
+abbrev pub stopped : Progress → Verdict → Progress
+stopped p v = record { plan = p .plan; at = p .at; going = false; verdict = v }
+
+-- the reading after the record at its offset
+unfoldable pub takeRecord : Progress → ℕ → Record → Progress
+takeRecord p len r = elim (faultOf (p .plan) len (p .at) r) [
+  | some f ↦ stopped p (Faulty f (p .at))
+  | none ↦ elim (eqb (r .kind) 5) [
+    | true ↦ stopped p (endVerdict len (p .at))
+    | false ↦ record { plan = declare (p .plan) (r .kind) (r .x) (r .y) (r .z); at = p .at + 1 + bodyLength (r .kind); going = true; verdict = Admitted }
+  ]
+]
+
+unfoldable pub readingOf : Verdict → Plan → Reading
+readingOf v p = elim v [ Admitted ↦ record { verdict = Admitted; state = firstState p } | Faulty f at ↦ record { verdict = Faulty f at; state = emptyState } ]
