@@ -1,9 +1,9 @@
 // The state of a plan under way: its types, readers and writers, what rules say of it, the chosen order, and number 12. The definitions
 // of document 01 stand in specs/.
 pub mod answer;
-pub mod coherent;
+mod coherent;
 pub mod event;
-pub mod history;
+mod history;
 pub mod order;
 pub mod read;
 pub mod rule;
