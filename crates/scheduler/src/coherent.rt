@@ -165,7 +165,7 @@ impl State {
         true
     }
 
-    // Do the declared rules?
+    // Do the declared rules hang together with the events and the history?
     fn are_rules_coherent(self) -> bool
         ensures { λ r. ⌜ r ≡ allBelow (ruleCount (self .plan)) (coherentRule self) ⌝ }
     {
@@ -191,7 +191,7 @@ impl State {
         true
     }
 
-    // Does number 12 not apply?
+    // Does the state hang together? Where it does not, number 12 applies.
     pub fn is_coherent(self) -> bool
         ensures { λ r. ⌜ r ≡ coherent self ⌝ }
     {

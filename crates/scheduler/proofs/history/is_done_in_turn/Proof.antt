@@ -2,8 +2,7 @@
 use Prim.Native.Nat.{_-_}
 use native.Mathlib.Omega.{arith}
 use borrow.Author.Needs.{needs}
-use mathlib.Core.Bool.{Bool, _&&_, _||_, and-false, or-false}
-use mathlib.Core.List.{List}
+use mathlib.Core.Bool.{_&&_, _||_, and-false, or-false}
 use mathlib.Core.Path.{_≡_, refl, sym, _∙_, ap}
 use lib.ListN.{take, drop}
 use Rattle.scheduler.specs.Rules.{anyDone, fatesIn, doneIn, doneInTurn}
