@@ -23,7 +23,7 @@ use Rattle.scheduler.proofs.Searching.{ready-unsettled}
 use Rattle.scheduler.proofs.Settling.{once-some, rest-none, settle-turns, settle-rest, finish-finishes}
 use Rattle.theory.proofs.Sound.{Sound}
 use Rattle.theory.proofs.Books.{Shape, Books, Tidy, Alike, books-alike, same-events, fate-then, lines-then, books-settle, tidy-settle}
-use Rattle.theory.proofs.Keep.{Laws, Strict, Quiet, unpaid, quiet-of, laws-do, strict-do, laws-drop, strict-drop, quiet-drop, gone-settled}
+use Rattle.theory.proofs.Keep.{Laws, Strict, Quiet, unpaid, unpaid-same, owes-same, quiet-of, laws-do, strict-do, laws-drop, strict-drop, quiet-drop, gone-settled}
 
 pub held-unsettled : {x : Fate} → x ≡ Held → isSettled x ≡ false
 held-unsettled h = ap isSettled h
@@ -183,16 +183,10 @@ lapse-good {p} (suc n) e s k b w q le = elim (either (isOpen (fateOf s e) && eqb
 -- closing a step changes nothing that the books and the rules read
 module _ (p : Plan) (s : State) (k : ℕ) where
   unpaid-shut : (r : Rule) → unpaid (shut s k) r ≡ unpaid s r
-  unfolding shut unpaid
-  unpaid-shut (Order a b) = refl
-  unpaid-shut (Need a b) = refl
-  unpaid-shut (Conditional a b c) = refl
+  unpaid-shut = unpaid-same s (shut s k) (λ j. ap isDone (fate-shut s k j)) (λ j. ap isGone (fate-shut s k j))
 
   owes-shut : (r : Rule) → owes (shut s k) r ≡ owes s r
-  unfolding shut owes
-  owes-shut (Order a b) = refl
-  owes-shut (Need a b) = refl
-  owes-shut (Conditional a b c) = refl
+  owes-shut = owes-same s (shut s k) (λ j. ap isDone (fate-shut s k j)) (λ j. ap isGone (fate-shut s k j))
 
   books-shut : Books p s → Books p (shut s k)
   books-shut b = books-alike (record { same-plan = plan-shut s k ∙ b .shape .same-plan; sized = sized-shut s k (b .shape .sized) }) (record { settled = λ e. ap isSettled (fate-shut s k e); fates = λ e. ap (λ x. fateIf (isSettled x) x) (fate-shut s k e); len = len-shut s k; same-lines = lines-shut s k }) b

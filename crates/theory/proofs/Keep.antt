@@ -114,6 +114,20 @@ unpaid s (Order a b) = false
 unpaid s (Need a b) = isDone (fateOf s a) && isGone (fateOf s b)
 unpaid s (Conditional a b c) = isDone (fateOf s a) && isDone (fateOf s b) && isGone (fateOf s c)
 
+-- states that agree on what is done and on what is gone owe the same, and leave the same unpaid
+module _ (s t : State) (done : (j : ℕ) → isDone (fateOf t j) ≡ isDone (fateOf s j)) (gone : (j : ℕ) → isGone (fateOf t j) ≡ isGone (fateOf s j)) where
+  pub owes-same : (r : Rule) → owes t r ≡ owes s r
+  unfolding owes
+  owes-same (Order a b) = refl
+  owes-same (Need a b) = rw (done a, done b, gone b)
+  owes-same (Conditional a b c) = rw (done a, done b, done c, gone c)
+
+  pub unpaid-same : (r : Rule) → unpaid t r ≡ unpaid s r
+  unfolding unpaid
+  unpaid-same (Order a b) = refl
+  unpaid-same (Need a b) = rw (done a, gone b)
+  unpaid-same (Conditional a b c) = rw (done a, done b, gone c)
+
 -- of each rule that is not recorded as broken: an order's events are not done the other way round, nothing is unpaid
 pub record Laws (p : Plan) (s : State) : Type 0 where
   pub turn : (i a b : ℕ) → i < ruleCount p → brokenAt s i ≡ false → ruleAt p i ≡ Order a b → doneInTurn (lines s) b a ≡ false

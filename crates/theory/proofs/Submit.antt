@@ -23,7 +23,7 @@ use Rattle.scheduler.proofs.Searching.{ready-unsettled, member-settled, chosen-
 use Rattle.scheduler.proofs.Settling.{settle-turns}
 use Rattle.theory.proofs.Sound.{Sound}
 use Rattle.theory.proofs.Books.{Shape, Books, Tidy, Alike, books-alike, same-events, shape-settle, shape-hold, fate-then, lines-then, books-settle, tidy-settle, fate-held, as-held, books-hold, tidy-hold}
-use Rattle.theory.proofs.Keep.{Laws, Strict, Quiet, unpaid, delayable-same, settled-stays, done-then, owed-later, laws-do, laws-done, laws-drop, strict-drop, quiet-drop}
+use Rattle.theory.proofs.Keep.{Laws, Strict, Quiet, unpaid, unpaid-same, owes-same, delayable-same, settled-stays, done-then, owed-later, laws-do, laws-done, laws-drop, strict-drop, quiet-drop}
 use Rattle.theory.proofs.Good.{held-unsettled, open-unsettled, Later, fates-trans, later-trans, later-settle, later-drop, Good, do-run, turn-good, turns-good, Resting, Settled, settle-good}
 
 -- an open event is held: nothing that the rules read changes
@@ -38,16 +38,10 @@ module _ {p : Plan} {s : State} (e : ℕ) (k : Books p s) (lt : e < eventCount p
   gone-hold = as-held e k lt op isGone refl
 
   unpaid-hold : (r : Rule) → unpaid (hold s e) r ≡ unpaid s r
-  unfolding unpaid
-  unpaid-hold (Order a b) = refl
-  unpaid-hold (Need a b) = rw (done-hold a, gone-hold b)
-  unpaid-hold (Conditional a b c) = rw (done-hold a, done-hold b, gone-hold c)
+  unpaid-hold = unpaid-same s (hold s e) done-hold gone-hold
 
   owes-hold : (r : Rule) → owes (hold s e) r ≡ owes s r
-  unfolding owes
-  owes-hold (Order a b) = refl
-  owes-hold (Need a b) = rw (done-hold a, settled-hold b)
-  owes-hold (Conditional a b c) = rw (done-hold a, done-hold b, settled-hold c)
+  owes-hold = owes-same s (hold s e) done-hold gone-hold
 
   unbroken-hold : (i : ℕ) → brokenAt (hold s e) i ≡ false → brokenAt s i ≡ false
   unbroken-hold i n = sym (broken-hold s e i) ∙ n
@@ -120,16 +114,10 @@ module _ {p : Plan} {s : State} (sd : Sound p) (e : ℕ) (k : Books p s) (w : La
   r = alone-recorded sd (k .shape) e
 
   unpaid-recorded : (u : Rule) → unpaid t u ≡ unpaid g u
-  unfolding unpaid
-  unpaid-recorded (Order a b) = refl
-  unpaid-recorded (Need a b) = rw (r .fate a, r .fate b)
-  unpaid-recorded (Conditional a b c) = rw (r .fate a, r .fate b, r .fate c)
+  unpaid-recorded = unpaid-same g t (λ j. ap isDone (r .fate j)) (λ j. ap isGone (r .fate j))
 
   owes-recorded : (u : Rule) → owes t u ≡ owes g u
-  unfolding owes
-  owes-recorded (Order a b) = refl
-  owes-recorded (Need a b) = rw (r .fate a, r .fate b)
-  owes-recorded (Conditional a b c) = rw (r .fate a, r .fate b, r .fate c)
+  owes-recorded = owes-same g t (λ j. ap isDone (r .fate j)) (λ j. ap isGone (r .fate j))
 
   pub books-alone : Books p t
   books-alone = books-alike (r .shape) (record { settled = λ j. ap isSettled (r .fate j); fates = λ j. ap (λ x. fateIf (isSettled x) x) (r .fate j); len = r .len; same-lines = r .same-lines }) (books-settle Done e refl k lt un)
