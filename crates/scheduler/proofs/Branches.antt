@@ -1,16 +1,16 @@
 -- The branches of the calls, one equation each.
-use Prim.Native.Nat.{ℕ, zero, suc}
-use mathlib.Core.Bool.{Bool, true, false, _&&_}
-use mathlib.Core.List.{List, [], _∷_}
+use Prim.Native.Nat.{ℕ, suc}
+use mathlib.Core.Bool.{true, false, _&&_}
+use mathlib.Core.List.{List}
 use mathlib.Core.Option.{Option, none, some}
-use mathlib.Core.Path.{_≡_, refl}
+use mathlib.Core.Path.{_≡_}
 use lib.Dec.{eqb}
 use Rattle.scheduler.specs.Prelude.{Lapsed, Refused, State, Fault, TurnedDown}
 use Rattle.scheduler.specs.Base.{lowest}
 use Rattle.scheduler.specs.State.{eventCount, stepOf, rejectable, delayable, fateOf, isOpen, isHeld, hold, settleAs}
 use Rattle.scheduler.specs.Orders.{chosen, doAll}
 use Rattle.scheduler.specs.Calls.{settleOnce, settleUpTo, settle, doAlone, decide, submit, lapse, refuseHeld}
-use Rattle.scheduler.specs.Faults.{Call, Reply, callFault, accept, call}
+use Rattle.scheduler.specs.Faults.{Call, callFault, accept, call}
 
 -- settling up to a number of turns
 pub upTo-none : (n : ℕ) (s : State) → settleOnce s ≡ none → settleUpTo (suc n) s ≡ s

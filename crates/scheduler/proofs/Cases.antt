@@ -4,7 +4,7 @@ use mathlib.Core.Bool.{Bool, true, false}
 use mathlib.Core.List.{List, [], _∷_, _++_, map}
 use mathlib.Core.Path.{_≡_, refl}
 use lib.ListN.{take, replicate}
-use Rattle.scheduler.specs.Prelude.{Fate, Open, Held, Done, Refused, Lapsed, Rule, Order, Need, Conditional, Plan, State, Answer, Is, Made, TurnedDown, Fault, Cut, BadKind, Full, BadStep, BadAttributes, BadNames, Unenforceable, Extra, Unknown, AlreadyClosed, NotClosed, Incoherent, Admitted, Faulty}
+use Rattle.scheduler.specs.Prelude.{Fate, Open, Held, Done, Refused, Lapsed, Rule, Order, Need, Conditional, Plan, State, Answer, Is, Made, TurnedDown, Cut, BadKind, Full, BadStep, BadAttributes, BadNames, Unenforceable, Extra, Unknown, AlreadyClosed, NotClosed, Incoherent, Admitted, Faulty}
 use Rattle.scheduler.specs.Base.{anyBelow, allBelow, countBelow, firstOf, tabulate, lowest}
 use Rattle.scheduler.specs.State.{eventCount, ruleCount, emptyPlan, firstState, emptyState, lines, hold, settleAs, shut, breakRule}
 use Rattle.scheduler.specs.Rules.{named, enforceable, soundEvent, soundRule, bars, makesWait, forbids, owes, barred, forbidden, owing, fatesIn, anyDone, doneIn, doneInTurn, holds}

@@ -1,17 +1,17 @@
 -- What a state reads after each of the four writes. Everything above uses these laws and not the records' text.
-use Prim.Native.Nat.{ℕ, zero, suc, _+_, _≤_, _<_}
+use Prim.Native.Nat.{ℕ, _+_, _≤_, _<_}
 use native.Mathlib.Omega.{arith}
 use native.Mathlib.Decide.{ℕ-discrete, decLt}
 use native.Mathlib.Numerals.{add-one}
 use borrow.Author.Tests.{lt-ltb, le-ltb}
-use mathlib.Core.Bool.{Bool, true, false, not, _&&_, _||_, cond}
+use mathlib.Core.Bool.{Bool, true, false, cond}
 use mathlib.Core.List.{List, [], _∷_, _++_}
 use mathlib.Core.Logic.{_≢_, _⊎_, inl, inr}
 use mathlib.Core.Path.{_≡_, refl, sym, _∙_, ap}
 use lib.Dec.{ltb}
-use lib.ListN.{length, getD, set, take, length-set}
+use lib.ListN.{length, getD, set, length-set}
 use lib.Seq.{getD-set-same, getD-set-other, take-suc-set}
-use Rattle.scheduler.specs.Prelude.{Fate, Open, Held, Done, Refused, Lapsed, Plan, Standing, Entry, State}
+use Rattle.scheduler.specs.Prelude.{Fate, Open, Held, Done, Refused, Lapsed, Standing, State}
 use Rattle.scheduler.specs.Base.{readAt, storeAt}
 use Rattle.scheduler.specs.State.{blankStanding, blankEntry, fateOf, brokenAt, closedAt, lineCount, lines, isOpen, isHeld, hold, settleAs, shut, breakRule}
 use Rattle.scheduler.proofs.Tests.{clash}

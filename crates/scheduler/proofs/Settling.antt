@@ -7,7 +7,7 @@ use mathlib.Core.List.{List, [], _∷_}
 use mathlib.Core.Option.{Option, none, some, Option·map}
 use mathlib.Core.Path.{_≡_, refl, sym, _∙_, ap, subst}
 use lib.ListN.{length}
-use Rattle.scheduler.specs.Prelude.{Fate, Open, Held, Done, Refused, Lapsed, State}
+use Rattle.scheduler.specs.Prelude.{Fate, Held, Done, Refused, State}
 use Rattle.scheduler.specs.Base.{countBelow, when, lowest}
 use Rattle.scheduler.specs.State.{eventCount, fateOf, isHeld, isSettled, settleAs}
 use Rattle.scheduler.specs.Rules.{barred}

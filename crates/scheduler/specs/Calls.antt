@@ -1,6 +1,6 @@
 -- The calls: settling, hand in, close a step, wind up.
-use Rattle.scheduler.specs.Prelude.{ℕ, zero, suc, _<_, Bool, true, false, not, _&&_, _||_, List, [], _∷_, Option, none, some, Option·map, _≡_, eqb, Held, Done, Refused, Lapsed, State}
-use Rattle.scheduler.specs.Base.{anyBelow, firstOf, when, orElse, lowest}
+use Rattle.scheduler.specs.Prelude.{ℕ, zero, suc, _<_, Bool, true, false, _&&_, _||_, List, Option, none, some, Option·map, _≡_, eqb, Held, Done, Refused, Lapsed, State}
+use Rattle.scheduler.specs.Base.{firstOf, when, lowest}
 use Rattle.scheduler.specs.State.{eventCount, ruleCount, stepOf, ruleAt, rejectable, delayable, fateOf, isOpen, isHeld, hold, settleAs, shut, breakRule}
 use Rattle.scheduler.specs.Rules.{stands, forbids, owes, barred}
 use Rattle.scheduler.specs.Orders.{Viable, First, chosen, doAll}

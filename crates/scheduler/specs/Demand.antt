@@ -1,6 +1,6 @@
 -- Demand 3, and demand 2's grounds, of any scheduler. Demand 3's words are read off the plan, the calls and the history after each call: they cite the rules and `Viable`,
 -- and neither the search nor the calls of Orders.antt and Calls.antt.
-use Rattle.scheduler.specs.Prelude.{ℕ, zero, suc, _≤_, _<_, Bool, true, false, not, _&&_, _||_, List, [], _∷_, _++_, _≡_, eqb, ltb, length, getD, drop, Fate, Open, Held, Done, Refused, Lapsed, Rule, Order, Need, Conditional, Plan, Standing, Entry, State}
+use Rattle.scheduler.specs.Prelude.{ℕ, _≤_, _<_, Bool, true, false, not, _&&_, _||_, List, [], _∷_, _++_, _≡_, eqb, ltb, length, getD, drop, Fate, Open, Held, Done, Refused, Lapsed, Rule, Order, Need, Conditional, Plan, Entry, State}
 use Rattle.scheduler.specs.Base.{allBelow, thoseBelow, among, tabulate}
 use Rattle.scheduler.specs.State.{eventCount, ruleCount, stepOf, ruleAt, rejectable, delayable, fateOf, lines, blankEntry, brokenAt, isOpen, isDone, isSettled, hold, settleAs, shut}
 use Rattle.scheduler.specs.Rules.{fatesIn, holds, forbids, owes, barred}

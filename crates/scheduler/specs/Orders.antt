@@ -1,5 +1,5 @@
 -- Viable orders, and the chosen one.
-use Rattle.scheduler.specs.Prelude.{ℕ, zero, suc, _≤_, _<_, Bool, true, false, not, _&&_, _||_, List, [], _∷_, List·Memᴰ, _⊎_, Option, none, some, Option·map, _≡_, eqb, length, Done, State}
+use Rattle.scheduler.specs.Prelude.{ℕ, zero, suc, _≤_, _<_, Bool, true, false, not, _&&_, _||_, List, [], _∷_, List·Memᴰ, _⊎_, Option, some, Option·map, _≡_, eqb, length, Done, State}
 use Rattle.scheduler.specs.Base.{firstOf, when, anyBelow}
 use Rattle.scheduler.specs.State.{eventCount, fateOf, forcible, isOpen, isHeld, settleAs}
 use Rattle.scheduler.specs.Rules.{forbidden, owing}

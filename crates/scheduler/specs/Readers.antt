@@ -1,6 +1,6 @@
 -- What a reader of the state answers. An event, a rule or a line is declared if its number is below its count and below 16, a step if it is at most 7;
 -- an undeclared number has an answer of its own, which is not "open".
-use Rattle.scheduler.specs.Prelude.{ℕ, Bool, true, false, _&&_, cond, ltb, Event, Entry, State, FateRead, EventRead, RuleRead, EntryRead, Mark}
+use Rattle.scheduler.specs.Prelude.{ℕ, Bool, _&&_, cond, ltb, State, FateRead, EventRead, RuleRead, EntryRead, Mark}
 use Rattle.scheduler.specs.Base.{readAt}
 use Rattle.scheduler.specs.State.{eventCount, ruleCount, lineCount, blankEntry, fateOf, eventAt, ruleAt, closedAt, brokenAt}
 

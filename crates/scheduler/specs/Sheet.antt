@@ -1,5 +1,5 @@
 -- Reading a sheet.
-use Rattle.scheduler.specs.Prelude.{ℕ, zero, suc, _+_, Bool, true, false, not, _&&_, _||_, List, [], _∷_, Option, none, some, eqb, ltb, leb, getD, length, Rule, Order, Need, Conditional, Plan, State, Fault, Cut, BadKind, Full, BadStep, BadAttributes, BadNames, Unenforceable, Extra, Verdict, Admitted, Faulty, Reading}
+use Rattle.scheduler.specs.Prelude.{ℕ, zero, suc, _+_, Bool, true, false, not, _&&_, _||_, List, [], _∷_, Option, none, some, eqb, ltb, leb, getD, length, Rule, Order, Need, Conditional, Plan, State, Fault, Cut, BadKind, Full, BadStep, BadAttributes, BadNames, Unenforceable, Extra, Admitted, Faulty, Reading}
 use Rattle.scheduler.specs.Base.{storeAt}
 use Rattle.scheduler.specs.State.{eventCount, ruleCount, emptyPlan, firstState, emptyState}
 use Rattle.scheduler.specs.Rules.{badStep, badAttributes, named, enforceable}

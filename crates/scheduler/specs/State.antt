@@ -1,5 +1,5 @@
 -- The plan and the state: fates, attributes, and how a state is read and written.
-use Rattle.scheduler.specs.Prelude.{ℕ, _+_, _/_, _%_, Bool, true, false, not, _&&_, _||_, cond, List, [], _∷_, eqb, ltb, take, replicate, Fate, Open, Held, Done, Refused, Lapsed, Event, Rule, Order, RuleLine, Plan, Standing, Entry, State}
+use Rattle.scheduler.specs.Prelude.{ℕ, _+_, _/_, _%_, Bool, true, false, _||_, cond, List, eqb, ltb, take, replicate, Fate, Open, Held, Done, Refused, Lapsed, Event, Rule, Order, RuleLine, Plan, Standing, Entry, State}
 use Rattle.scheduler.specs.Base.{readAt, storeAt}
 
 -- "An event is open (not handed in), held, done, refused or lapsed. The last three are settled"

@@ -1,22 +1,22 @@
 -- The history against the fates: how each settlement keeps them in step.
-use Prim.Native.Nat.{ℕ, zero, suc, _+_, _≤_, _<_}
+use Prim.Native.Nat.{ℕ, suc, _+_, _≤_, _<_}
 use native.Mathlib.Omega.{arith}
 use native.Mathlib.Decide.{ℕ-discrete}
 use native.Mathlib.Numerals.{add-one}
 use borrow.Author.Tests.{eq-eqb, ne-eqb, lt-ltb, ltb-true}
-use mathlib.Core.Bool.{Bool, true, false, not, _&&_, _||_}
-use mathlib.Core.List.{List, [], _∷_, _++_, append-assoc, append-nil}
+use mathlib.Core.Bool.{true, false}
+use mathlib.Core.List.{List, [], _∷_, _++_, append-nil}
 use mathlib.Core.Logic.{_≢_}
-use mathlib.Core.Path.{_≡_, refl, sym, _∙_, ap, ap₂}
+use mathlib.Core.Path.{_≡_, refl, sym, _∙_, ap}
 use lib.Dec.{eqb, ltb}
-use lib.ListN.{length, getD}
-use Rattle.theory.proofs.Types.{Fate, Open, Held, Done, Refused, Lapsed, Plan, Entry, State}
+use lib.ListN.{getD}
+use Rattle.theory.proofs.Types.{Fate, Open, Held, Plan, Entry, State}
 use Rattle.scheduler.specs.Base.{countBelow}
-use Rattle.scheduler.specs.State.{eventCount, fateOf, brokenAt, closedAt, lineCount, lines, blankEntry, isOpen, isHeld, isDone, isGone, isSettled, hold, settleAs, shut, breakRule}
+use Rattle.scheduler.specs.State.{eventCount, fateOf, lineCount, lines, blankEntry, isSettled, hold, settleAs}
 use Rattle.scheduler.specs.Rules.{fateIf, fatesIn}
 use Rattle.scheduler.specs.Faults.{declaredOnly}
 use Rattle.scheduler.specs.Demand.{Sized}
-use Rattle.scheduler.proofs.Tests.{clash, and-left, and-right, and-both, count-le, count-same, count-more}
+use Rattle.scheduler.proofs.Tests.{and-left, and-right, and-both, count-le, count-same, count-more}
 use Rattle.scheduler.proofs.Histories.{fates-append}
 use Rattle.scheduler.proofs.Laws.{plan-settle, fate-settle-same, fate-settle-other, sized-settle, len-settle, lines-settle, line-settle-other, plan-hold, fate-hold-same, fate-hold-other, sized-hold, len-hold, lines-hold, history-hold}
 

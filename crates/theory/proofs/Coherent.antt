@@ -1,21 +1,18 @@
 -- A good state passes number 12.
-use Prim.Native.Nat.{ℕ, zero, suc, _+_, _≤_, _<_}
-use native.Mathlib.Omega.{arith}
+use Prim.Native.Nat.{ℕ, _<_}
 use borrow.Author.Tests.{le-leb, eq-eqb}
 use mathlib.Core.Bool.{Bool, true, false, not, _&&_, _||_}
-use mathlib.Core.List.{List, [], _∷_, _++_}
-use mathlib.Core.Logic.{_⊎_, inl, inr}
-use mathlib.Core.Path.{_≡_, refl, sym, _∙_, ap, ap₂}
-use lib.Dec.{eqb, leb}
-use Rattle.theory.proofs.Types.{Fate, Open, Held, Done, Refused, Lapsed, Rule, Order, Need, Conditional, Plan, State}
-use Rattle.scheduler.specs.Base.{allBelow}
+use mathlib.Core.List.{List, [], _∷_}
+use mathlib.Core.Logic.{inl, inr}
+use mathlib.Core.Path.{_≡_, refl, sym}
+use Rattle.theory.proofs.Types.{Fate, Rule, Order, Need, Conditional, Plan, State}
 use Rattle.scheduler.specs.State.{eventCount, ruleCount, stepOf, ruleAt, delayable, fateOf, fateNumber, sameFate, brokenAt, closedAt, lineCount, lines, isOpen, isHeld, isDone, isGone, isSettled}
-use Rattle.scheduler.specs.Rules.{soundEvent, soundRule, fateIf, doneIn, doneInTurn, owes, holds}
-use Rattle.scheduler.specs.Faults.{declaredOnly, sameFates, listed, coherentEvent, coherentRule, coherent}
+use Rattle.scheduler.specs.Rules.{soundEvent, soundRule, fateIf, owes, holds}
+use Rattle.scheduler.specs.Faults.{sameFates, listed, coherentEvent, coherentRule, coherent}
 use Rattle.scheduler.proofs.Tests.{clash, either, and-both, all-of}
 use Rattle.theory.proofs.Sound.{Sound}
-use Rattle.theory.proofs.Books.{Shape, Books, len-le}
-use Rattle.theory.proofs.Keep.{Laws, Quiet, unpaid, done-listed, order-named, need-named, conditional-named}
+use Rattle.theory.proofs.Books.{len-le}
+use Rattle.theory.proofs.Keep.{unpaid, done-listed, need-named, conditional-named}
 use Rattle.scheduler.proofs.Laws.{held-is, open-is}
 use Rattle.theory.proofs.Good.{Good}
 

@@ -1,32 +1,32 @@
 -- Demand 3, of the scheduler of document 01.
-use Prim.Native.Nat.{ℕ, zero, suc, _+_, _≤_, _<_}
+use Prim.Native.Nat.{ℕ, zero, suc, _≤_, _<_}
 use native.Mathlib.Omega.{arith}
 use native.Mathlib.Decide.{ℕ-discrete, decLt}
 use borrow.Author.Tests.{eq-eqb, ne-eqb, ltb-true, ltb-false, lt-ltb, le-leb, lt-leb, not-true}
 use mathlib.Core.Bool.{Bool, true, false, not, _&&_, _||_, and-false}
 use mathlib.Core.List.{List, [], _∷_, _++_, append-nil}
 use mathlib.Core.Logic.{_≢_, _⊎_, inl, inr}
-use mathlib.Core.Option.{Option, none, some}
+use mathlib.Core.Option.{none, some}
 use mathlib.Core.Path.{_≡_, refl, sym, _∙_, ap, subst}
-use lib.Dec.{eqb, ltb, leb}
-use lib.ListN.{length, getD, take, drop, length-replicate, getD-replicate, replicate}
-use Rattle.theory.proofs.Types.{Fate, Open, Held, Done, Refused, Lapsed, Rule, Order, Need, Conditional, Plan, Standing, Entry, State, Fault, Unknown, AlreadyClosed, NotClosed, Answer}
-use Rattle.scheduler.specs.Base.{anyBelow, allBelow, countBelow, among, thoseBelow, readAt}
-use Rattle.scheduler.specs.State.{eventCount, ruleCount, stepOf, ruleAt, firstState, blankStanding, blankEntry, fateOf, brokenAt, closedAt, lines, isOpen, isHeld, isDone, isGone, isSettled, hold, shut, settleAs}
+use lib.Dec.{eqb}
+use lib.ListN.{length, getD, length-replicate, getD-replicate, replicate}
+use Rattle.theory.proofs.Types.{Fate, Open, Held, Done, Refused, Lapsed, Rule, Order, Need, Conditional, Plan, Standing, Entry, State, Fault, Unknown, AlreadyClosed, NotClosed}
+use Rattle.scheduler.specs.Base.{anyBelow, allBelow, among, thoseBelow, readAt}
+use Rattle.scheduler.specs.State.{eventCount, ruleCount, stepOf, ruleAt, firstState, blankStanding, blankEntry, fateOf, brokenAt, closedAt, lines, isOpen, isHeld, isDone, isSettled, hold, shut, settleAs}
 use Rattle.scheduler.specs.Rules.{soundEvent, fateIf, fatesIn, doneInTurn, forbids, owes, holds, badStep}
 use Rattle.scheduler.specs.Orders.{Viable, hasViable}
 use Rattle.scheduler.specs.Calls.{strains, doAlone, submit, closeStep, finish}
 use Rattle.scheduler.specs.Faults.{firstFault, declaredOnly, coherent, hasEvent, Call, submitting, closing, finishing, callFault, Reply, accept, call, isTurnedDown}
 use Rattle.scheduler.specs.Sheet.{readSheet, admitted}
-use Rattle.scheduler.specs.Demand.{Scheduler, after, Story, seen, Observed, nothingYet, waitsAs, observedFate, stateOf, accepted, startsDone, doneAlone, against, newlyRecorded, shows, onlyHistory, observe, observeAll, broken, unbreakable, Holds, Extends, Grows, Demand3, Keeps, scheduler, Sized}
-use Rattle.scheduler.proofs.Tests.{clash, either, or-either, count-zero, or-left, or-right, or-both, and-left, and-right, and-both, and-not, any-false, any-none, any-some, any-found, all-at, all-of}
+use Rattle.scheduler.specs.Demand.{after, seen, Observed, nothingYet, waitsAs, stateOf, accepted, startsDone, doneAlone, against, newlyRecorded, shows, onlyHistory, observe, observeAll, broken, unbreakable, Holds, Extends, Grows, Keeps, scheduler}
+use Rattle.scheduler.proofs.Tests.{clash, either, or-either, count-zero, or-both, and-left, and-right, any-none, any-some, any-found, all-at}
 use Rattle.scheduler.proofs.Laws.{open-is, fate-hold-same, fate-hold-other, plan-hold, closed-hold, broken-hold, lines-hold, broken-settle, fate-shut, broken-shut, lines-shut, closed-shut-same, closed-shut-other}
 use Rattle.scheduler.proofs.Branches.{submit-same, call-fault, call-accept}
 use Rattle.theory.proofs.Sound.{Sound}
 use Rattle.theory.proofs.Fresh.{sheet-first, sheet-sound}
 use Rattle.theory.proofs.Books.{Shape, Books, Tidy, same-events, shape-hold}
-use Rattle.theory.proofs.Keep.{Laws, Strict, Quiet, unpaid}
-use Rattle.theory.proofs.Good.{Later, Good, Resting, tidy-shut, strict-shut, close-good, finish-good}
+use Rattle.theory.proofs.Keep.{Strict, unpaid}
+use Rattle.theory.proofs.Good.{Good, Resting, tidy-shut, strict-shut, close-good, finish-good}
 use Rattle.theory.proofs.Submit.{strict-hold, Recorded, alone-recorded, Manner, ordered, waited, alone, Handed, submit-good}
 use Rattle.theory.proofs.Coherent.{rule-holds, good-coherent}
 use Rattle.theory.proofs.Passes.{call-taken, fault-answer}

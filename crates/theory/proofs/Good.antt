@@ -2,27 +2,27 @@
 use Prim.Native.Nat.{ℕ, zero, suc, _+_, _≤_, _<_}
 use native.Mathlib.Omega.{arith}
 use native.Mathlib.Decide.{ℕ-discrete}
-use borrow.Author.Tests.{eq-eqb, eqb-true}
-use mathlib.Core.Bool.{Bool, true, false, not, _&&_, _||_}
+use borrow.Author.Tests.{eq-eqb}
+use mathlib.Core.Bool.{true, false, _&&_}
 use mathlib.Core.List.{List, [], _∷_, _++_, append-assoc, append-nil}
-use mathlib.Core.Logic.{_≢_, _⊎_, inl, inr}
+use mathlib.Core.Logic.{_⊎_, inl, inr}
 use mathlib.Core.Option.{Option, none, some}
 use mathlib.Core.Path.{_≡_, refl, sym, _∙_, ap, subst}
 use lib.Dec.{eqb}
 use lib.ListN.{getD}
-use Rattle.theory.proofs.Types.{Fate, Open, Held, Done, Refused, Lapsed, Rule, Order, Need, Conditional, Plan, Entry, State}
-use Rattle.scheduler.specs.State.{eventCount, ruleCount, stepOf, ruleAt, delayable, fateOf, brokenAt, closedAt, lines, blankEntry, isOpen, isHeld, isDone, isGone, isSettled, settleAs, shut}
+use Rattle.theory.proofs.Types.{Fate, Open, Held, Done, Refused, Lapsed, Rule, Plan, Entry, State}
+use Rattle.scheduler.specs.State.{eventCount, stepOf, ruleAt, delayable, fateOf, brokenAt, closedAt, lines, blankEntry, isOpen, isDone, isGone, isSettled, settleAs, shut}
 use Rattle.scheduler.specs.Rules.{fateIf, owes, doneInTurn}
-use Rattle.scheduler.specs.Orders.{mayDo, Runs, Viable, doAll}
-use Rattle.scheduler.specs.Calls.{Lowest, Turn, refuses, does, Turns, stay, turn, Settles, settleOnce, settle, lapse, closeStep, Refusing, nothing-held, refuse-next, finish}
+use Rattle.scheduler.specs.Orders.{Runs, Viable, doAll}
+use Rattle.scheduler.specs.Calls.{Turn, refuses, does, Turns, stay, turn, Settles, settleOnce, settle, lapse, closeStep, Refusing, nothing-held, refuse-next, finish}
 use Rattle.scheduler.specs.Demand.{Sized}
-use Rattle.scheduler.proofs.Tests.{clash, either, and-left, and-right, and-both}
-use Rattle.scheduler.proofs.Laws.{held-is, open-is, plan-settle, fate-settle-other, closed-settle, broken-settle, plan-shut, fate-shut, broken-shut, history-shut, len-shut, lines-shut, closed-shut-same, closed-shut-other, sized-shut}
+use Rattle.scheduler.proofs.Tests.{clash, either, and-left, and-both}
+use Rattle.scheduler.proofs.Laws.{open-is, fate-settle-other, closed-settle, broken-settle, plan-shut, fate-shut, broken-shut, history-shut, len-shut, lines-shut, closed-shut-other, sized-shut}
 use Rattle.scheduler.proofs.Branches.{lapse-yes, lapse-no}
 use Rattle.scheduler.proofs.Searching.{ready-unsettled}
 use Rattle.scheduler.proofs.Settling.{once-some, rest-none, settle-turns, settle-rest, finish-finishes}
 use Rattle.theory.proofs.Sound.{Sound}
-use Rattle.theory.proofs.Books.{Shape, Books, Tidy, Alike, books-alike, same-events, fate-then, lines-then, books-settle, tidy-settle}
+use Rattle.theory.proofs.Books.{Books, Tidy, books-alike, same-events, fate-then, lines-then, books-settle, tidy-settle}
 use Rattle.theory.proofs.Keep.{Laws, Strict, Quiet, unpaid, unpaid-same, owes-same, quiet-of, laws-do, strict-do, laws-drop, strict-drop, quiet-drop, gone-settled}
 
 pub held-unsettled : {x : Fate} → x ≡ Held → isSettled x ≡ false

@@ -1,15 +1,15 @@
 -- What the rules keep: by doing an event that none forbids, and by refusing or letting lapse one while none owes.
-use Prim.Native.Nat.{ℕ, zero, suc, _+_, _≤_, _<_}
+use Prim.Native.Nat.{ℕ, _<_}
 use native.Mathlib.Omega.{arith}
 use native.Mathlib.Decide.{ℕ-discrete}
 use borrow.Author.Tests.{eq-eqb, ne-eqb, eqb-true, ltb-true, not-true, not-false}
-use mathlib.Core.Bool.{Bool, true, false, not, _&&_, _||_, and-true, and-false, or-false, or-assoc}
+use mathlib.Core.Bool.{Bool, true, false, not, _&&_, _||_, and-true, and-false, or-false}
 use mathlib.Core.List.{List, [], _∷_, _++_}
-use mathlib.Core.Logic.{_≢_, _⊎_, inl, inr}
+use mathlib.Core.Logic.{inl, inr}
 use mathlib.Core.Path.{_≡_, refl, sym, _∙_, ap}
 use lib.Dec.{eqb, ltb}
 use Rattle.theory.proofs.Types.{Fate, Open, Held, Done, Refused, Lapsed, Rule, Order, Need, Conditional, Plan, Entry, State}
-use Rattle.scheduler.specs.State.{eventCount, ruleCount, ruleAt, delayable, rejectable, fateOf, brokenAt, lines, isOpen, isHeld, isDone, isGone, isSettled, settleAs}
+use Rattle.scheduler.specs.State.{eventCount, ruleCount, ruleAt, delayable, fateOf, brokenAt, lines, isDone, isGone, isSettled, settleAs}
 use Rattle.scheduler.specs.Rules.{named, enforceable, soundRule, fateIf, anyDone, fatesIn, doneIn, doneInTurn, bars, makesWait, forbids, owes, forbidden, owing}
 use Rattle.scheduler.specs.Orders.{ready, mayDo}
 use Rattle.scheduler.specs.Demand.{unbreakable}
@@ -18,7 +18,7 @@ use Rattle.scheduler.proofs.Histories.{doneIn-append, doneIn-cons}
 use Rattle.scheduler.proofs.Laws.{fate-settle-other, broken-settle}
 use Rattle.scheduler.proofs.Searching.{ready-unsettled}
 use Rattle.theory.proofs.Sound.{Sound}
-use Rattle.theory.proofs.Books.{Shape, Books, fate-then, lines-then, same-events}
+use Rattle.theory.proofs.Books.{Shape, Books, fate-then, lines-then}
 
 -- tests
 joined : (p q r : Bool) → (p && r) ≡ false → (q && r) ≡ false → ((p || q) && r) ≡ false

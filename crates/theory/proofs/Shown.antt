@@ -1,17 +1,17 @@
 -- What a story shows against the state.
-use Prim.Native.Nat.{ℕ, zero, suc, _+_, _≤_, _<_}
+use Prim.Native.Nat.{ℕ, zero, suc, _+_, _<_}
 use native.Mathlib.Omega.{arith}
 use native.Mathlib.Decide.{ℕ-discrete, decLt}
 use native.Mathlib.Nat.{add-zero, zero-add}
 use borrow.Author.Tests.{eq-eqb, eqb-true, lt-ltb}
 use mathlib.Core.Bool.{Bool, true, false, not, _&&_, _||_, or-assoc}
 use mathlib.Core.List.{List, [], _∷_, _++_}
-use mathlib.Core.Logic.{_≢_, _⊎_, inl, inr}
+use mathlib.Core.Logic.{_⊎_, inl, inr}
 use mathlib.Core.Path.{_≡_, refl, sym, _∙_, ap}
-use lib.Dec.{eqb, ltb}
-use lib.ListN.{length, getD, take, drop, List·getD-eq-default}
+use lib.Dec.{eqb}
+use lib.ListN.{length, getD, List·getD-eq-default}
 use lib.Seq.{ext-getD, getD-take, length-take-le, drop-append-seam}
-use Rattle.theory.proofs.Types.{Fate, Open, Plan, Standing, Entry, State}
+use Rattle.theory.proofs.Types.{Plan, Standing, Entry, State}
 use Rattle.scheduler.specs.Base.{readAt, among, thoseBelow, tabulate}
 use Rattle.scheduler.specs.State.{eventCount, fateOf, brokenAt, closedAt, lineCount, lines, blankStanding, blankEntry, isOpen, isSettled, hold}
 use Rattle.scheduler.specs.Rules.{fateIf, fatesIn}

@@ -1,6 +1,6 @@
 -- What a plan that a sheet declares, or that number 12 lets pass, is known to be.
 use Prim.Native.Nat.{ℕ, _≤_, _<_}
-use mathlib.Core.Bool.{Bool, true, false}
+use mathlib.Core.Bool.{true}
 use mathlib.Core.Path.{_≡_}
 use Rattle.theory.proofs.Types.{Plan}
 use Rattle.scheduler.specs.State.{eventCount, ruleCount}

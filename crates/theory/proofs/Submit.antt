@@ -1,5 +1,5 @@
 -- Handing an event in.
-use Prim.Native.Nat.{ℕ, zero, suc, _+_, _≤_, _<_}
+use Prim.Native.Nat.{ℕ, zero, suc, _≤_, _<_}
 use native.Mathlib.Omega.{arith}
 use native.Mathlib.Decide.{ℕ-discrete}
 use borrow.Author.Tests.{eq-eqb, eqb-true, not-true}
@@ -10,21 +10,21 @@ use mathlib.Core.Option.{Option, none, some}
 use mathlib.Core.Path.{_≡_, refl, sym, _∙_, ap, subst}
 use lib.Dec.{eqb}
 use lib.ListN.{getD}
-use Rattle.theory.proofs.Types.{Fate, Open, Held, Done, Refused, Lapsed, Rule, Order, Need, Conditional, Plan, Entry, State}
-use Rattle.scheduler.specs.State.{eventCount, ruleCount, stepOf, ruleAt, delayable, rejectable, fateOf, brokenAt, closedAt, lineCount, lines, blankEntry, isOpen, isHeld, isDone, isGone, isSettled, hold, settleAs, breakRule}
+use Rattle.theory.proofs.Types.{Open, Held, Done, Refused, Rule, Order, Need, Conditional, Plan, Entry, State}
+use Rattle.scheduler.specs.State.{eventCount, ruleCount, stepOf, ruleAt, delayable, rejectable, fateOf, brokenAt, closedAt, lineCount, lines, blankEntry, isOpen, isHeld, isDone, isGone, isSettled, hold, settleAs}
 use Rattle.scheduler.specs.Rules.{named, enforceable, soundRule, fateIf, doneInTurn, bars, makesWait, forbids, owes}
 use Rattle.scheduler.specs.Orders.{Viable, chosen, doAll, hasViable}
-use Rattle.scheduler.specs.Calls.{Turn, refuses, does, Turns, stay, turn, settle, strains, breakIf, recordBroken, doAlone, decide, submit}
-use Rattle.scheduler.specs.Demand.{Sized, unbreakable, startsDone}
+use Rattle.scheduler.specs.Calls.{Turn, refuses, does, Turns, stay, turn, settle, strains, breakIf, recordBroken, doAlone, submit}
+use Rattle.scheduler.specs.Demand.{unbreakable, startsDone}
 use Rattle.scheduler.proofs.Tests.{clash, either, or-left, or-right, or-both, and-left, and-right, and-both, and-not}
-use Rattle.scheduler.proofs.Laws.{open-is, fate-settle-other, closed-settle, broken-settle, plan-hold, fate-hold-other, closed-hold, broken-hold, len-hold, lines-hold, plan-break, fate-break, closed-break, history-break, len-break, lines-break, broken-break-same, broken-break-other, sized-break}
+use Rattle.scheduler.proofs.Laws.{open-is, fate-settle-other, closed-settle, broken-settle, plan-hold, fate-hold-other, closed-hold, broken-hold, lines-hold, plan-break, fate-break, closed-break, history-break, len-break, lines-break, broken-break-same, broken-break-other, sized-break}
 use Rattle.scheduler.proofs.Branches.{decide-order, decide-refuse, decide-alone, submit-delayed, submit-decided}
 use Rattle.scheduler.proofs.Searching.{ready-unsettled, member-settled, chosen-none, chosen-first, viable-has, chosen-none-has}
 use Rattle.scheduler.proofs.Settling.{settle-turns}
 use Rattle.theory.proofs.Sound.{Sound}
-use Rattle.theory.proofs.Books.{Shape, Books, Tidy, Alike, books-alike, same-events, shape-settle, shape-hold, fate-then, lines-then, books-settle, tidy-settle, fate-held, as-held, books-hold, tidy-hold}
-use Rattle.theory.proofs.Keep.{Laws, Strict, Quiet, unpaid, unpaid-same, owes-same, delayable-same, settled-stays, done-then, owed-later, laws-do, laws-done, laws-drop, strict-drop, quiet-drop}
-use Rattle.theory.proofs.Good.{held-unsettled, open-unsettled, Later, fates-trans, later-trans, later-settle, later-drop, Good, do-run, turn-good, turns-good, Resting, Settled, settle-good}
+use Rattle.theory.proofs.Books.{Shape, Books, Tidy, books-alike, same-events, shape-settle, fate-then, lines-then, books-settle, tidy-settle, fate-held, as-held, books-hold}
+use Rattle.theory.proofs.Keep.{Laws, Strict, Quiet, unpaid, unpaid-same, owes-same, delayable-same, settled-stays, done-then, owed-later, laws-do, laws-done, laws-drop, quiet-drop}
+use Rattle.theory.proofs.Good.{held-unsettled, open-unsettled, Later, fates-trans, later-trans, later-drop, Good, do-run, turn-good, turns-good, Resting, Settled, settle-good}
 
 -- an open event is held: nothing that the rules read changes
 module _ {p : Plan} {s : State} (e : ℕ) (k : Books p s) (lt : e < eventCount p) (op : fateOf s e ≡ Open) where
