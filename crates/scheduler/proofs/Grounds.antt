@@ -7,11 +7,11 @@ use mathlib.Core.Logic.{_⊎_, inl, inr}
 use mathlib.Core.Option.{Option, none, some}
 use mathlib.Core.Path.{_≡_, refl, sym, _∙_, ap, subst}
 use lib.Dec.{eqb}
-use Rattle.scheduler.specs.Prelude.{Open, Done, Refused, Lapsed, Plan, State, Fault}
+use Rattle.scheduler.specs.Prelude.{Open, Done, Refused, Lapsed, Plan, State, Fault, Reply}
 use Rattle.scheduler.specs.State.{eventCount, ruleCount, stepOf, rejectable, delayable, fateOf, isOpen, hold, settleAs, shut}
 use Rattle.scheduler.specs.Orders.{First, chosen, doAll}
 use Rattle.scheduler.specs.Calls.{refuses, does, Turns, stay, turn, settleOnce, settle, strains, breakIf, recordBroken, doAlone, decide, submit, lapse, closeStep, refuseHeld, finish}
-use Rattle.scheduler.specs.Faults.{Call, submitting, closing, finishing, Reply, callFault, accept, call}
+use Rattle.scheduler.specs.Faults.{Call, submitting, closing, finishing, callFault, accept, call}
 use Rattle.scheduler.specs.Demand.{by-bar, by-hand, by-end, Trail, end, held, ordered, alone, refused, shuts, lapsed, Sized, Grounded}
 use Rattle.scheduler.proofs.Tests.{and-left, and-right, either}
 use Rattle.scheduler.proofs.Laws.{open-is, plan-hold, fate-hold-same, sized-hold, sized-shut, sized-break, sized-settle}

@@ -8,4 +8,6 @@ pub mod Searching
 pub mod Settling
 pub mod Grounds
 pub mod Budgets
+pub mod Turning
+pub mod Calling
 pub mod Cases

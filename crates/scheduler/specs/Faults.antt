@@ -1,5 +1,5 @@
 -- When a call is turned down, and what it answers.
-use Rattle.scheduler.specs.Prelude.{ℕ, Bool, true, false, not, _&&_, _||_, List, [], _∷_, Option, none, some, eqb, ltb, leb, Fate, Plan, Entry, State, Fault, Cut, BadKind, Full, BadStep, BadAttributes, BadNames, Unenforceable, Extra, Unknown, AlreadyClosed, NotClosed, Incoherent, Answer, Is, Made, TurnedDown}
+use Rattle.scheduler.specs.Prelude.{ℕ, Bool, true, false, not, _&&_, _||_, List, [], _∷_, Option, none, some, eqb, ltb, leb, Fate, Plan, Entry, State, Fault, Cut, BadKind, Full, BadStep, BadAttributes, BadNames, Unenforceable, Extra, Unknown, AlreadyClosed, NotClosed, Incoherent, Answer, Is, Made, TurnedDown, Reply}
 use Rattle.scheduler.specs.Base.{anyBelow, allBelow}
 use Rattle.scheduler.specs.State.{eventCount, ruleCount, stepOf, ruleAt, delayable, fateOf, brokenAt, closedAt, lineCount, lines, isOpen, isHeld, isSettled, sameFate}
 use Rattle.scheduler.specs.Rules.{soundEvent, soundRule, owes, fateIf, fatesIn, holds}
@@ -68,15 +68,14 @@ callFault s (closing k) = firstFault ((not (coherent s), Incoherent) ∷ (not (h
 callFault s finishing = firstFault ((not (coherent s), Incoherent) ∷ (anyBelow 8 (λ k. hasEvent (s .plan) k && not (closedAt s k)), NotClosed) ∷ [])
 
 -- "Each call takes a funeral's state and gives the state after it."
-pub record Reply : Type 0 where
-  pub answer : Answer
-  pub state : State
-
 unfoldable pub accept : State → Call → Reply
 accept s (submitting e) = let t = submit s e in record { answer = Is (fateOf t e); state = t }
 accept s (closing k) = record { answer = Made; state = closeStep s k }
 accept s finishing = record { answer = Made; state = finish s }
 
 -- a call turned down gives back the state as it came in
+abbrev pub turnedDownBy : Fault → State → Reply
+turnedDownBy f s = record { answer = TurnedDown f; state = s }
+
 unfoldable pub call : State → Call → Reply
-call s c = elim (callFault s c) [ some f ↦ record { answer = TurnedDown f; state = s } | none ↦ accept s c ]
+call s c = elim (callFault s c) [ some f ↦ turnedDownBy f s | none ↦ accept s c ]

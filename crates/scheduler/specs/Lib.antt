@@ -7,6 +7,7 @@ pub mod Parts
 pub mod Orders
 pub mod Found
 pub mod Calls
+pub mod Turned
 pub mod Faults
 pub mod Sheet
 pub mod Runner

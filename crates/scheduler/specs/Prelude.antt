@@ -24,6 +24,8 @@ pub use Rattle.scheduler.specs.declared.answer.Answer.the-variants.{Is, 
 pub use Rattle.scheduler.specs.declared.answer.Verdict.{Verdict}
 pub use Rattle.scheduler.specs.declared.answer.Verdict.the-variants.{Admitted, Refused as Faulty}
 pub use Rattle.scheduler.specs.declared.answer.Reading.{Reading}
+pub use Rattle.scheduler.specs.declared.answer.Reply.{Reply}
+pub use Rattle.scheduler.specs.declared.answer.Outcome.{Outcome}
 pub use Rattle.scheduler.specs.declared.read.FateRead.{FateRead}
 pub use Rattle.scheduler.specs.declared.read.EventRead.{EventRead}
 pub use Rattle.scheduler.specs.declared.read.RuleRead.{RuleRead}

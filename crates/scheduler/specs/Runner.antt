@@ -1,5 +1,5 @@
 -- The call file, the run of a list, and the report.
-use Rattle.scheduler.specs.Prelude.{ℕ, zero, suc, _+_, _/_, _%_, Bool, true, false, List, [], _∷_, _++_, eqb, ltb, Fate, Open, Held, Done, Refused, Lapsed, Entry, State, Verdict, Admitted, Faulty, Reading}
+use Rattle.scheduler.specs.Prelude.{ℕ, zero, suc, _+_, _/_, _%_, Bool, true, false, List, [], _∷_, _++_, eqb, ltb, Fate, Open, Held, Done, Refused, Lapsed, Entry, State, Verdict, Admitted, Faulty, Reading, Outcome}
 use Rattle.scheduler.specs.Base.{oneIf, countBelow}
 use Rattle.scheduler.specs.State.{eventCount, ruleCount, fateOf, brokenAt, lines, isHeld}
 use Rattle.scheduler.specs.Faults.{Call, submitting, closing, finishing, faultNumber, isTurnedDown, call}
@@ -41,12 +41,6 @@ stateAfter s (c ∷ cs) = stateAfter (call s c .state) cs
 unfoldable pub turnedDown : State → List Call → ℕ
 turnedDown s [] = 0
 turnedDown s (c ∷ cs) = oneIf (isTurnedDown (call s c .answer)) + turnedDown (call s c .state) cs
-
--- what a run comes to
-pub record Outcome : Type 0 where
-  pub verdict : Verdict
-  pub state : State
-  pub refused : ℕ
 
 -- the calls of a file on an admitted sheet's first state; "a cut record .. counts as one refused call". A sheet turned down: the empty state, and no call is made
 unfoldable pub runOn : Reading → Decoded → Outcome

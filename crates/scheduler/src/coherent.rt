@@ -48,7 +48,7 @@ fn is_same(x: Fate, y: Fate) -> bool
 }
 
 // Is the step closed?
-fn is_closed_in(closed: [bool; 8], step: u8) -> bool
+pub(crate) fn is_closed_in(closed: [bool; 8], step: u8) -> bool
     ensures { λ r. ⌜ r ≡ readAt 8 closed step false ⌝ }
 {
     if step < 8 {

@@ -10,13 +10,13 @@ use mathlib.Core.Option.{none, some}
 use mathlib.Core.Path.{_≡_, refl, sym, _∙_, ap, subst}
 use lib.Dec.{eqb}
 use lib.ListN.{length, getD, length-replicate, getD-replicate, replicate}
-use Rattle.theory.proofs.Types.{Fate, Open, Held, Done, Refused, Lapsed, Rule, Order, Need, Conditional, Plan, Standing, Entry, State, Fault, Unknown, AlreadyClosed, NotClosed}
+use Rattle.theory.proofs.Types.{Fate, Open, Held, Done, Refused, Lapsed, Rule, Order, Need, Conditional, Plan, Standing, Entry, State, Fault, Unknown, AlreadyClosed, NotClosed, Reply}
 use Rattle.scheduler.specs.Base.{anyBelow, allBelow, among, thoseBelow, readAt}
 use Rattle.scheduler.specs.State.{eventCount, ruleCount, stepOf, ruleAt, firstState, blankStanding, blankEntry, fateOf, brokenAt, closedAt, lines, isOpen, isHeld, isDone, isSettled, hold, shut, settleAs}
 use Rattle.scheduler.specs.Rules.{soundEvent, fateIf, fatesIn, doneInTurn, forbids, owes, holds, badStep}
 use Rattle.scheduler.specs.Orders.{Viable, hasViable}
 use Rattle.scheduler.specs.Calls.{strains, doAlone, submit, closeStep, finish}
-use Rattle.scheduler.specs.Faults.{firstFault, declaredOnly, coherent, hasEvent, Call, submitting, closing, finishing, callFault, Reply, accept, call, isTurnedDown}
+use Rattle.scheduler.specs.Faults.{firstFault, declaredOnly, coherent, hasEvent, Call, submitting, closing, finishing, callFault, accept, call, isTurnedDown}
 use Rattle.scheduler.specs.Sheet.{readSheet, admitted}
 use Rattle.scheduler.specs.Demand.{after, seen, Observed, nothingYet, waitsAs, stateOf, accepted, startsDone, doneAlone, against, newlyRecorded, shows, onlyHistory, observe, observeAll, broken, unbreakable, Holds, Extends, Grows, Keeps, scheduler}
 use Rattle.scheduler.proofs.Tests.{clash, either, or-either, count-zero, or-both, and-left, and-right, any-none, any-some, any-found, all-at}

@@ -11,11 +11,11 @@ use mathlib.Core.Path.{_≡_, refl, sym, _∙_, ap, ap₂, subst}
 use lib.Dec.{eqb, ltb, leb}
 use lib.ListN.{length, getD}
 use lib.Seq.{length-take-le}
-use Rattle.theory.proofs.Types.{Fate, Open, Held, Done, Refused, Lapsed, Rule, Order, Need, Conditional, Plan, Entry, State, Fault, Unknown, AlreadyClosed, NotClosed, Incoherent, TurnedDown}
+use Rattle.theory.proofs.Types.{Fate, Open, Held, Done, Refused, Lapsed, Rule, Order, Need, Conditional, Plan, Entry, State, Fault, Unknown, AlreadyClosed, NotClosed, Incoherent, TurnedDown, Reply}
 use Rattle.scheduler.specs.Base.{anyBelow, allBelow, oneIf, countBelow}
 use Rattle.scheduler.specs.State.{eventCount, ruleCount, stepOf, ruleAt, delayable, fateOf, fateNumber, sameFate, brokenAt, closedAt, lineCount, lines, isOpen, isHeld, isDone, isGone, isSettled}
 use Rattle.scheduler.specs.Rules.{soundEvent, soundRule, fateIf, fatesIn, doneInTurn, owes, holds}
-use Rattle.scheduler.specs.Faults.{isTurnedDown, firstFault, declaredOnly, sameFates, listed, coherentEvent, coherentRule, coherent, Call, submitting, closing, finishing, hasEvent, callFault, Reply, accept, call}
+use Rattle.scheduler.specs.Faults.{isTurnedDown, firstFault, declaredOnly, sameFates, listed, coherentEvent, coherentRule, coherent, Call, submitting, closing, finishing, hasEvent, callFault, accept, call}
 use Rattle.scheduler.specs.Demand.{Sized}
 use Rattle.scheduler.proofs.Tests.{count-zero, clash, either, and-left, and-right, and-not, all-at, count-more, some-none}
 use Rattle.scheduler.proofs.Branches.{submit-same, call-fault, call-accept}

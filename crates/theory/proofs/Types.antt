@@ -16,3 +16,5 @@ pub use Rattle.scheduler.specs.declared.answer.Answer.the-variants.{Is, Made, T
 pub use Rattle.scheduler.specs.declared.answer.Verdict.{Verdict}
 pub use Rattle.scheduler.specs.declared.answer.Verdict.the-variants.{Admitted, Refused as Faulty}
 pub use Rattle.scheduler.specs.declared.answer.Reading.{Reading}
+pub use Rattle.scheduler.specs.declared.answer.Reply.{Reply}
+pub use Rattle.scheduler.specs.declared.answer.Outcome.{Outcome}

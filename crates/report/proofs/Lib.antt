@@ -1,0 +1,5 @@
+pub mod Pages
+pub mod Counting
+pub mod Splits
+pub mod Copied
+pub mod Bounds

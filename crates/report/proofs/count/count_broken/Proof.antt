@@ -1,0 +1,54 @@
+-- `count_broken` meets its contract.
+use Prim.Native.Nat.{_-_}
+use native.Mathlib.Omega.{arith}
+use borrow.Author.Needs.{needs}
+use mathlib.Core.Bool.{false}
+use Rattle.scheduler.specs.Base.{readAt}
+use Rattle.report.proofs.Counting.{Counted, count-none, count-next, count-small, count-all}
+use Rattle.report.proofs.count.count_broken.Statement.{statement}
+use Rattle.report.proofs.count.count_broken.Tie as tie
+
+abbrev Inv-loop : tie.InvT-loop
+Inv-loop broken n count₀ i₀ count i = Counted (λ e. readAt 16 broken e false) n count i
+
+abbrev μ-loop : tie.MeasureT-loop
+μ-loop broken n count₀ i₀ count i = n - i
+
+loop-holds : tie.Need-loop-holds Inv-loop μ-loop
+loop-holds c = count-none _ _
+
+flag-in-requires : tie.Need-flag-in-requires Inv-loop μ-loop
+flag-in-requires c κs = search needs
+
+cast-count : tie.Need-cast-count Inv-loop μ-loop
+cast-count c = search needs
+
+add-count : tie.Need-add-count Inv-loop μ-loop
+add-count c = let h = count-small _ _ (c .before .before .loop .count) (c .before .before .loop .i) (c .flag-in .result) (c .before .before .loop .inv) (c .before .loop-test .taken) (c .flag-in .ensures) (omega arith) in omega arith
+
+add-i : tie.Need-add-i Inv-loop μ-loop
+add-i c = omega arith
+
+loop-less : tie.Need-loop-less Inv-loop μ-loop
+loop-less c = omega arith
+
+loop-again : tie.Need-loop-again Inv-loop μ-loop
+loop-again c = count-next _ _ (c .before .before .loop .count) (c .before .before .loop .i) (c .flag-in .result) (c .before .before .loop .inv) (c .before .loop-test .taken) (c .flag-in .ensures)
+
+returns : tie.Need-returns Inv-loop μ-loop
+returns c = count-all _ _ _ (c .before .loop .i) (c .before .loop .inv) (c .loop-test .left)
+
+pub count-broken-spec : {M : Type 1} → statement M
+count-broken-spec =
+    tie.close
+    (tie.spec
+    Inv-loop
+    μ-loop
+    loop-holds
+    flag-in-requires
+    cast-count
+    add-count
+    add-i
+    loop-less
+    loop-again
+    returns)

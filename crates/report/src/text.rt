@@ -1,0 +1,146 @@
+// The lines of a report.
+use super::MOST;
+use super::count::count_broken;
+use super::count::count_held;
+use super::page::put_count;
+use super::page::put_decimal;
+use super::page::put_line;
+use super::page::put_word;
+use scheduler::answer::Fault;
+use scheduler::answer::Outcome;
+use scheduler::answer::Verdict;
+use scheduler::event::Fate;
+use scheduler::state::Entry;
+use scheduler::state::State;
+ghost use mathlib.Core.Path.{_≡_};
+ghost use Prim.Native.Nat.{_+_, _≤_, min};
+ghost use lib.ListN.{length, take};
+ghost use Rattle.scheduler.specs.Faults.{faultNumber};
+ghost use Rattle.scheduler.specs.Runner.{historyLines, report};
+ghost use Rattle.report.specs.Written.{Put, fateEnd, entryLine, head, tail, stateText, faultLine};
+
+// The fate that ends a history line.
+fn put_fate(page: &mut [u8; MOST], at: usize, fate: Fate) -> usize
+    requires { ⌜ at + length (fateEnd fate) ≤ 320 ⌝ }
+    ensures { λ r. ⌜ Put (now (page .entry)) at (fateEnd fate) (now (page .exit)) r ⌝ }
+{
+    match fate {
+        Fate::Open => put_word(page, at, b" open\n"),
+        Fate::Held => put_word(page, at, b" held\n"),
+        Fate::Done => put_word(page, at, b" done\n"),
+        Fate::Refused => put_word(page, at, b" refused\n"),
+        Fate::Lapsed => put_word(page, at, b" lapsed\n"),
+    }
+}
+
+// A history line.
+fn put_entry(page: &mut [u8; MOST], at: usize, entry: Entry) -> usize
+    requires { ⌜ at + length (entryLine entry) ≤ 320 ⌝ }
+    ensures { λ r. ⌜ Put (now (page .entry)) at (entryLine entry) (now (page .exit)) r ⌝ }
+{
+    let fate = entry.fate;
+    let next = put_decimal(page, at, entry.event as usize);
+    put_fate(page, next, fate)
+}
+
+// The lines that a length gives: one above 16 stands for all 16.
+fn lines_in(len: u8) -> u8
+    ensures { λ r. ⌜ r ≡ min len 16 ⌝ }
+{
+    if len < 16 { len } else { 16 }
+}
+
+// The history lines.
+fn put_history(page: &mut [u8; MOST], at: usize, history: [Entry; 16], len: u8) -> usize
+    requires { ⌜ at + length (historyLines (take len history)) ≤ 320 ⌝ }
+    ensures { λ r. ⌜ Put (now (page .entry)) at (historyLines (take len history)) (now (page .exit)) r ⌝ }
+{
+    let n = lines_in(len);
+    let mut next = at;
+    let mut i: u8 = 0;
+    while i < n {
+        let entry = history[i as usize];
+        next = put_entry(page, next, entry);
+        i += 1;
+    }
+    next
+}
+
+// The line that counts declarations.
+fn put_head(page: &mut [u8; MOST], at: usize, events: u8, rules: u8) -> usize
+    requires { ⌜ at + length (head events rules) ≤ 320 ⌝ }
+    ensures { λ r. ⌜ Put (now (page .entry)) at (head events rules) (now (page .exit)) r ⌝ }
+{
+    let next = put_count(page, at, b"events ", events as usize);
+    put_line(page, next, b" rules ", rules as usize)
+}
+
+// The lines with the events still held, the rules recorded as broken and the calls turned down.
+fn put_tail(page: &mut [u8; MOST], at: usize, held: usize, broken: usize, refused: usize) -> usize
+    requires { ⌜ at + length (tail held broken refused) ≤ 320 ⌝ }
+    ensures { λ r. ⌜ Put (now (page .entry)) at (tail held broken refused) (now (page .exit)) r ⌝ }
+{
+    let next = put_line(page, at, b"held ", held);
+    let then = put_line(page, next, b"broken ", broken);
+    put_line(page, then, b"refused calls ", refused)
+}
+
+// The report of an admitted sheet.
+fn put_state(page: &mut [u8; MOST], state: State, refused: usize) -> usize
+    requires { ⌜ length (stateText state refused) ≤ 320 ⌝ }
+    ensures { λ r. ⌜ Put (now (page .entry)) 0 (stateText state refused) (now (page .exit)) r ⌝ }
+{
+    let plan = state.plan;
+    let history = state.history;
+    let standings = state.standings;
+    let broken = state.broken;
+    let events = plan.event_count;
+    let rules = plan.rule_count;
+    let next = put_head(page, 0, events, rules);
+    let then = put_history(page, next, history, state.history_len);
+    let held = count_held(standings, events);
+    let marked = count_broken(broken, rules);
+    put_tail(page, then, held, marked, refused)
+}
+
+// The number that the table gives.
+fn fault_number(fault: Fault) -> usize
+    ensures { λ r. ⌜ r ≡ faultNumber fault ⌝ }
+{
+    match fault {
+        Fault::Cut => 1,
+        Fault::BadKind => 2,
+        Fault::Full => 3,
+        Fault::BadStep => 4,
+        Fault::BadAttributes => 5,
+        Fault::BadNames => 6,
+        Fault::Unenforceable => 7,
+        Fault::Extra => 8,
+        Fault::Unknown => 9,
+        Fault::AlreadyClosed => 10,
+        Fault::NotClosed => 11,
+        Fault::Incoherent => 12,
+    }
+}
+
+// The report of a sheet turned down.
+fn put_fault(page: &mut [u8; MOST], fault: Fault, offset: usize) -> usize
+    requires { ⌜ length (faultLine fault offset) ≤ 320 ⌝ }
+    ensures { λ r. ⌜ Put (now (page .entry)) 0 (faultLine fault offset) (now (page .exit)) r ⌝ }
+{
+    let next = put_count(page, 0, b"refused ", fault_number(fault));
+    put_line(page, next, b" at ", offset)
+}
+
+// An outcome's report.
+pub(crate) fn put_report(page: &mut [u8; MOST], outcome: Outcome) -> usize
+    requires { ⌜ length (report outcome) ≤ 320 ⌝ }
+    ensures { λ r. ⌜ Put (now (page .entry)) 0 (report outcome) (now (page .exit)) r ⌝ }
+{
+    let verdict = outcome.verdict;
+    let state = outcome.state;
+    match verdict {
+        Verdict::Admitted => put_state(page, state, outcome.refused),
+        Verdict::Refused(fault, offset) => put_fault(page, fault, offset),
+    }
+}

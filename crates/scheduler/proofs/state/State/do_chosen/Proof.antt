@@ -1,0 +1,79 @@
+-- `State::do_chosen` meets its contract. The loop: what is left of it from e on is the whole answer.
+use Prim.Native.Nat.{_≤_, _-_}
+use native.Mathlib.Omega.{arith}
+use mathlib.Core.Logic.{⊎-elim}
+use Rattle.scheduler.specs.Orders.{doAll}
+use Rattle.scheduler.specs.State.{eventCount}
+use Rattle.scheduler.specs.Calls.{toDo}
+use Rattle.scheduler.proofs.Turning.{Rest, rest-all, rest-next, turn-here, turn-none, held-told, doing, doing-some, doing-missing, doing-none}
+use Rattle.scheduler.proofs.state.State.do_chosen.Statement.{statement}
+use Rattle.scheduler.proofs.state.State.do_chosen.Tie as tie
+
+abbrev Inv-loop : tie.InvT-loop
+Inv-loop self standings n e₀ e = (e ≤ n) × Rest (eventCount (self .plan)) (doing self) e
+
+abbrev μ-loop : tie.MeasureT-loop
+μ-loop self standings n e₀ e = n - e
+
+loop-holds : tie.Need-loop-holds Inv-loop μ-loop
+loop-holds c = (omega arith, rest-all _ _)
+
+fate-in-requires : tie.Need-fate-in-requires Inv-loop μ-loop
+fate-in-requires c κs = tt
+
+is-held-requires : tie.Need-is-held-requires Inv-loop μ-loop
+is-held-requires c κs = tt
+
+find-order-requires : tie.Need-find-order-requires Inv-loop μ-loop
+find-order-requires c κs = tt
+
+do-order-requires : tie.Need-do-order-requires Inv-loop μ-loop
+do-order-requires c κs = tt
+
+returns : tie.Need-returns Inv-loop μ-loop
+unfolding toDo
+returns c =
+    let at = c .before .before .before .before .before .before .before .loop in
+    let s = c .before .before .before .before .before .before .before .before .before .before .args .self in
+    let held = held-told s (at .e) _ _ _ (c .before .before .before .before .before .fate-in .ensures) (c .before .before .before .before .is-held .ensures) (c .before .before .before .if1 .taken) in
+    rw (c .do-order .ensures) (turn-here _ _ (at .e) (at .inv .1) s (doAll s) (omega arith) _ (doing-some s (at .e) _ (c .before .before .find-order .ensures) held (c .before .if2 .taken)))
+
+add-e : tie.Need-add-e Inv-loop μ-loop
+add-e c = omega arith
+
+loop-less : tie.Need-loop-less Inv-loop μ-loop
+loop-less c = omega arith
+
+loop-again : tie.Need-loop-again Inv-loop μ-loop
+loop-again c =
+    let at = c .before .before .before .before .loop in
+    let s = c .before .before .before .before .before .before .before .args .self in (
+      omega arith,
+      rest-next _ _ (at .e) (at .inv .1) (omega arith) (⊎-elim
+          (λ w. doing-missing s (at .e) _ (w .1 .ensures) (held-told s (at .e) _ _ _ (c .before .before .fate-in .ensures) (c .before .is-held .ensures) (w .0 .taken)) (w .2 .left))
+          (λ w. doing-none s (at .e) (held-told s (at .e) _ _ _ (c .before .before .fate-in .ensures) (c .before .is-held .ensures) (w .left)))
+          (c .if1 .came)),
+    )
+
+returns-2 : tie.Need-returns-2 Inv-loop μ-loop
+unfolding toDo
+returns-2 c =
+    let s = c .before .before .before .before .args .self in
+    turn-none _ (doing s) (c .before .loop .e) (c .before .loop .inv .1) s (doAll s) (c .loop-test .left)
+
+pub do-chosen-spec : {M : Type 1} → statement M
+do-chosen-spec =
+    tie.close
+    (tie.spec
+    Inv-loop
+    μ-loop
+    loop-holds
+    fate-in-requires
+    is-held-requires
+    find-order-requires
+    do-order-requires
+    returns
+    add-e
+    loop-less
+    loop-again
+    returns-2)

@@ -1,0 +1,54 @@
+-- `State::settle` meets its contract. The loop: the turns that are left settle the whole.
+use native.Mathlib.Omega.{arith}
+use borrow.Author.Tests.{not-true, not-false}
+use mathlib.Core.Path.{_≡_, refl, sym, _∙_}
+use Rattle.scheduler.specs.Calls.{settleUpTo, settle}
+use Rattle.scheduler.proofs.Turning.{up-rest, up-next, up-end}
+use Rattle.scheduler.proofs.state.State.settle.Statement.{statement}
+use Rattle.scheduler.proofs.state.State.settle.Tie as tie
+
+abbrev Inv-loop : tie.InvT-loop
+Inv-loop next₀ left₀ next left = settle next₀ ≡ settleUpTo left next
+
+abbrev μ-loop : tie.MeasureT-loop
+μ-loop next₀ left₀ next left = left
+
+loop-holds : tie.Need-loop-holds Inv-loop μ-loop
+unfolding settle
+loop-holds c = refl
+
+settle-once-requires : tie.Need-settle-once-requires Inv-loop μ-loop
+settle-once-requires c κs = tt
+
+returns : tie.Need-returns Inv-loop μ-loop
+returns c =
+    let at = c .before .before .before .before .loop in
+    sym (at .inv ∙ up-rest (at .next) _ (c .before .before .settle-once .ensures) (at .left) (c .before .before .before .loop-test .taken) (not-true _ (c .if1 .taken)))
+
+sub-left : tie.Need-sub-left Inv-loop μ-loop
+sub-left c = omega arith
+
+loop-less : tie.Need-loop-less Inv-loop μ-loop
+loop-less c = omega arith
+
+loop-again : tie.Need-loop-again Inv-loop μ-loop
+loop-again c =
+    let at = c .before .before .before .before .before .loop in
+    at .inv ∙ up-next (at .next) _ (c .before .before .before .settle-once .ensures) (at .left) (c .before .before .before .before .loop-test .taken) (not-false _ (c .before .if1 .left))
+
+returns-2 : tie.Need-returns-2 Inv-loop μ-loop
+returns-2 c = sym (c .before .loop .inv ∙ up-end (c .before .loop .left) _ (c .loop-test .left))
+
+pub settle-spec : {M : Type 1} → statement M
+settle-spec =
+    tie.close
+    (tie.spec
+    Inv-loop
+    μ-loop
+    loop-holds
+    settle-once-requires
+    returns
+    sub-left
+    loop-less
+    loop-again
+    returns-2)

@@ -1,0 +1,18 @@
+// The static library: what include/sinewhopa.h declares.
+ghost use mathlib.Core.Path.{_≡_};
+ghost use Prim.Native.Nat.{_≤_};
+ghost use lib.ListN.{length};
+ghost use Rattle.scheduler.specs.Runner.{runOf, report};
+ghost use Rattle.report.specs.Filled.{filled};
+
+// Runs the calls on the sheet, writes the report at the start of `out` and answers its length. Where that is more than there is room
+// for, nothing is written.
+#[no_mangle]
+pub extern "C" fn sinewhopa_run(sheet: &[u8], calls: &[u8], out: &mut [u8]) -> usize
+    ensures length { λ r. ⌜ r ≡ length (report (runOf (now (sheet .entry)) (now (calls .entry)))) ⌝ }
+    ensures bytes { λ _. ⌜ now (out .exit) ≡ filled (report (runOf (now (sheet .entry)) (now (calls .entry)))) (now (out .entry)) ⌝ }
+    ensures short { λ r. ⌜ r ≤ 320 ⌝ }
+{
+    let outcome = lists::run::run(sheet, calls);
+    report::write_report(outcome, out)
+}

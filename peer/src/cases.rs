@@ -1,0 +1,124 @@
+//! Cases A to L of document 01. The reports are worked out by hand from its
+//! words. Where a case names no steps, event n is in step n.
+
+pub struct Case {
+    /// Also the folder below `examples`.
+    pub name: &'static str,
+    pub sheet: &'static [u8],
+    pub calls: &'static [u8],
+    pub report: &'static str,
+}
+
+pub const CASES: &[Case] = &[
+    Case {
+        name: "A",
+        sheet: &[1, 0, 6, 1, 1, 6, 2, 0, 1, 3, 0, 1, 5],
+        calls: &[16, 0, 16, 1],
+        report: "events 2 rules 2\n0 done\n1 done\nheld 0\nbroken 0\nrefused calls 0\n",
+    },
+    Case {
+        name: "B",
+        sheet: &[1, 0, 6, 1, 1, 6, 2, 0, 1, 3, 0, 1, 5],
+        calls: &[16, 0, 17, 1],
+        report: "events 2 rules 2\n1 lapsed\n0 refused\nheld 0\nbroken 0\nrefused calls 0\n",
+    },
+    Case {
+        name: "C",
+        sheet: &[1, 0, 6, 1, 1, 6, 2, 0, 1, 5],
+        calls: &[16, 1, 17, 0],
+        report: "events 2 rules 1\n0 lapsed\n1 done\nheld 0\nbroken 0\nrefused calls 0\n",
+    },
+    Case {
+        name: "D",
+        sheet: &[1, 0, 1, 1, 1, 1, 3, 0, 1, 5],
+        calls: &[16, 0],
+        report: "events 2 rules 1\n0 done\n1 done\nheld 0\nbroken 0\nrefused calls 0\n",
+    },
+    Case {
+        name: "E",
+        sheet: &[1, 0, 1, 1, 1, 1, 3, 0, 1, 5],
+        calls: &[17, 1, 16, 0],
+        report: "events 2 rules 1\n1 lapsed\n0 done\nheld 0\nbroken 1\nrefused calls 0\n",
+    },
+    Case {
+        name: "F",
+        sheet: &[1, 0, 1, 1, 1, 6, 3, 0, 1, 5],
+        calls: &[],
+        report: "refused 7 at 6\n",
+    },
+    Case {
+        name: "G",
+        sheet: &[1, 0, 6, 1, 1, 0, 2, 0, 1, 5],
+        calls: &[16, 1, 16, 0],
+        report: "events 2 rules 1\n1 done\n0 refused\nheld 0\nbroken 0\nrefused calls 0\n",
+    },
+    Case {
+        name: "H",
+        sheet: &[1, 0, 6, 1, 1, 6, 2, 0, 1, 2, 1, 0, 5],
+        calls: &[16, 0, 16, 1, 17, 0, 17, 1, 18],
+        report: "events 2 rules 2\n0 refused\n1 done\nheld 0\nbroken 0\nrefused calls 0\n",
+    },
+    Case {
+        name: "I/1",
+        sheet: &[],
+        calls: &[],
+        report: "refused 1 at 0\n",
+    },
+    Case {
+        name: "I/2",
+        sheet: &[5],
+        calls: &[],
+        report: "events 0 rules 0\nheld 0\nbroken 0\nrefused calls 0\n",
+    },
+    Case {
+        name: "I/3",
+        sheet: &[5, 5],
+        calls: &[],
+        report: "refused 8 at 1\n",
+    },
+    Case {
+        name: "I/4",
+        sheet: &[1, 0, 4, 5],
+        calls: &[],
+        report: "refused 5 at 0\n",
+    },
+    Case {
+        name: "J/six",
+        sheet: &[
+            1, 0, 6, 1, 1, 6, 1, 2, 6, 1, 3, 6, 1, 4, 6, 1, 5, 6, // events
+            3, 0, 1, 3, 1, 2, 3, 2, 3, 3, 3, 4, 3, 4, 5, 3, 5, 0, // ring
+            5,
+        ],
+        calls: &[16, 0, 16, 1, 16, 2, 16, 3, 16, 4, 16, 5],
+        report: "events 6 rules 6\n0 done\n1 done\n2 done\n3 done\n4 done\n5 done\n\
+                 held 0\nbroken 0\nrefused calls 0\n",
+    },
+    Case {
+        name: "J/seven",
+        sheet: &[
+            1, 0, 6, 1, 1, 6, 1, 2, 6, 1, 3, 6, 1, 4, 6, 1, 5, 6, 1, 6, 6, // events
+            3, 0, 1, 3, 1, 2, 3, 2, 3, 3, 3, 4, 3, 4, 5, 3, 5, 6, 3, 6, 0, // ring
+            5,
+        ],
+        calls: &[16, 0, 16, 1, 16, 2, 16, 3, 16, 4, 16, 5, 16, 6],
+        report: "events 7 rules 7\nheld 7\nbroken 0\nrefused calls 0\n",
+    },
+    Case {
+        name: "K",
+        sheet: &[
+            1, 0, 6, 1, 1, 6, 1, 2, 6, 1, 3, 6, 1, 4, 6, 1, 5, 6, 1, 6, 6, // events
+            3, 0, 1, 3, 1, 2, 3, 2, 3, 3, 3, 4, 3, 4, 5, 3, 5, 6, // chain
+            5,
+        ],
+        calls: &[16, 0, 16, 1, 16, 2, 16, 3, 16, 4, 16, 5, 16, 6],
+        report: "events 7 rules 6\n1 done\n2 done\n3 done\n4 done\n5 done\n6 done\n0 done\n\
+                 held 0\nbroken 0\nrefused calls 0\n",
+    },
+    Case {
+        name: "L",
+        sheet: &[1, 0, 6, 1, 1, 6, 1, 2, 6, 4, 0, 1, 2, 5],
+        calls: &[16, 0, 16, 1, 17, 2],
+        report: "events 3 rules 1\n0 done\n2 lapsed\n1 refused\n\
+                 held 0\nbroken 0\nrefused calls 0\n",
+    },
+];

@@ -1,0 +1,18 @@
+//! The second scheduler.
+//!
+//! It shares nothing with the proved library but document 01. Events are bits
+//! of a 16-bit set, needs and conditionals are one form of rule, and the chosen
+//! order comes from a breadth-first search over sets of done events.
+
+pub mod calls;
+pub mod report;
+pub mod rules;
+pub mod scheduler;
+pub mod search;
+pub mod set;
+pub mod sheet;
+
+pub use calls::{trace, Answer, Run};
+pub use report::run;
+pub use scheduler::{Cause, Fate, Line, Reason, Scheduler, State};
+pub use sheet::{Refused, Sheet};

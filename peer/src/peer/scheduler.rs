@@ -1,0 +1,255 @@
+//! The state of one funeral and the three calls.
+
+use super::search::{Order, Search};
+use super::set::{has, lowest, members, one, Set};
+use super::sheet::Sheet;
+
+#[derive(Clone, Copy, Debug, PartialEq, Eq)]
+pub enum Fate {
+    Open,
+    Held,
+    Done,
+    Refused,
+    Lapsed,
+}
+
+/// Why an event was settled. Reports do not show it; the comparison counts it.
+#[derive(Clone, Copy, Debug, PartialEq, Eq)]
+pub enum Cause {
+    /// Done in a chosen order, after being handed in.
+    Ordered,
+    /// Done in a chosen order without being handed in.
+    Forced,
+    /// Done alone.
+    Alone,
+    /// Refused while held, because barred.
+    Barred,
+    /// Refused when handed in: rejectable, not delayable, no viable order.
+    NoOrder,
+    /// Refused while winding up.
+    WindUp,
+    /// Lapsed.
+    Closing,
+}
+
+#[derive(Clone, Copy, Debug, PartialEq, Eq)]
+pub struct Line {
+    pub event: u8,
+    pub fate: Fate,
+    pub cause: Cause,
+}
+
+/// Why a call is turned down. Number 12 cannot arise here: states only come
+/// from admitted sheets and calls.
+#[derive(Clone, Copy, Debug, PartialEq, Eq)]
+pub enum Reason {
+    /// 9: no such event, or a step to close has no event.
+    NoSuch = 9,
+    /// 10: step already closed.
+    ClosedAlready = 10,
+    /// 11: winding up with a step that has an event and is not closed.
+    StepNotClosed = 11,
+}
+
+/// The fates as sets; an event in none of them is open.
+#[derive(Clone, Copy, Debug, Default, PartialEq, Eq)]
+pub struct State {
+    pub held: Set,
+    pub done: Set,
+    pub refused: Set,
+    pub lapsed: Set,
+    /// Rules recorded as broken.
+    pub broken: Set,
+    /// Closed steps, one bit for each.
+    pub closed: Set,
+}
+
+impl State {
+    /// Settled and not done.
+    pub fn failed(&self) -> Set {
+        self.refused | self.lapsed
+    }
+
+    pub fn open(&self, sheet: &Sheet) -> Set {
+        sheet.all() & !(self.held | self.done | self.failed())
+    }
+
+    pub fn fate(&self, event: u8) -> Fate {
+        if has(self.held, event) {
+            Fate::Held
+        } else if has(self.done, event) {
+            Fate::Done
+        } else if has(self.refused, event) {
+            Fate::Refused
+        } else if has(self.lapsed, event) {
+            Fate::Lapsed
+        } else {
+            Fate::Open
+        }
+    }
+}
+
+#[derive(Clone, Debug)]
+pub struct Scheduler {
+    sheet: Sheet,
+    state: State,
+    history: Vec<Line>,
+    search: Search,
+    /// How many orders of each length were done; for the comparison's counts.
+    orders: [usize; 7],
+}
+
+impl Scheduler {
+    pub fn new(sheet: Sheet) -> Scheduler {
+        Scheduler {
+            sheet,
+            state: State::default(),
+            history: Vec::new(),
+            search: Search::default(),
+            orders: [0; 7],
+        }
+    }
+
+    pub fn sheet(&self) -> &Sheet {
+        &self.sheet
+    }
+
+    pub fn state(&self) -> &State {
+        &self.state
+    }
+
+    pub fn history(&self) -> &[Line] {
+        &self.history
+    }
+
+    /// How many orders of each length were done; the place is the length.
+    pub fn orders(&self) -> &[usize; 7] {
+        &self.orders
+    }
+
+    /// Hands in an event and gives its fate. One that is not open is accepted:
+    /// its fate is the answer and nothing is settled.
+    pub fn submit(&mut self, event: u8) -> Result<Fate, Reason> {
+        if usize::from(event) >= self.sheet.events() {
+            return Err(Reason::NoSuch);
+        }
+        if has(self.state.open(&self.sheet), event) {
+            self.state.held |= one(event);
+            if !has(self.sheet.delayable, event) {
+                self.decide(event);
+            }
+            self.settle();
+        }
+        Ok(self.state.fate(event))
+    }
+
+    pub fn close_step(&mut self, step: u8) -> Result<(), Reason> {
+        let of_step = self.sheet.of_step(step);
+        if of_step == 0 {
+            return Err(Reason::NoSuch);
+        }
+        if has(self.state.closed, step) {
+            return Err(Reason::ClosedAlready);
+        }
+        self.state.closed |= one(step);
+        for event in members(of_step & self.state.open(&self.sheet)) {
+            self.enter(event, Fate::Lapsed, Cause::Closing);
+        }
+        self.settle();
+        Ok(())
+    }
+
+    /// Winds up. A sheet with no event has no step to close, so it winds up at
+    /// any time.
+    pub fn finish(&mut self) -> Result<(), Reason> {
+        let closed = self.state.closed;
+        if !self.sheet.steps.iter().all(|step| has(closed, *step)) {
+            return Err(Reason::StepNotClosed);
+        }
+        self.settle();
+        while let Some(event) = lowest(self.state.held) {
+            self.enter(event, Fate::Refused, Cause::WindUp);
+            self.settle();
+        }
+        Ok(())
+    }
+
+    /// The branches for an event that is not delayable. Nothing is settled
+    /// before them.
+    fn decide(&mut self, event: u8) {
+        let order = self.search.chosen(&self.sheet, &self.state, one(event));
+        if let Some(order) = order {
+            self.perform(order);
+        } else if has(self.sheet.rejectable, event) {
+            self.enter(event, Fate::Refused, Cause::NoOrder);
+        } else {
+            self.do_alone(event);
+        }
+    }
+
+    fn settle(&mut self) {
+        while self.state.held != 0 {
+            if let Some(event) = self.lowest_barred() {
+                self.enter(event, Fate::Refused, Cause::Barred);
+                continue;
+            }
+            let held = self.state.held;
+            match self.search.chosen(&self.sheet, &self.state, held) {
+                Some(order) => self.perform(order),
+                None => return,
+            }
+        }
+    }
+
+    fn lowest_barred(&self) -> Option<u8> {
+        let (done, failed) = (self.state.done, self.state.failed());
+        members(self.state.held)
+            .find(|&event| self.rules_that(|rule| rule.bars(event, done, failed)) != 0)
+    }
+
+    fn perform(&mut self, order: Order) {
+        self.orders[order.events().count()] += 1;
+        for event in order.events() {
+            let cause = if has(self.state.held, event) {
+                Cause::Ordered
+            } else {
+                Cause::Forced
+            };
+            self.enter(event, Fate::Done, cause);
+        }
+    }
+
+    /// Records each rule that forbids the event now or owes right after it,
+    /// before anything else is settled.
+    fn do_alone(&mut self, event: u8) {
+        let (done, failed) = (self.state.done, self.state.failed());
+        let forbid = self.rules_that(|rule| rule.forbids(event, done, failed));
+        self.enter(event, Fate::Done, Cause::Alone);
+        let done = self.state.done;
+        let owe = self.rules_that(|rule| rule.owes(done, failed));
+        self.state.broken |= forbid | owe;
+    }
+
+    /// The unbroken rules for which `says` is true.
+    fn rules_that(&self, says: impl Fn(&super::rules::Rule) -> bool) -> Set {
+        let mut found = 0;
+        for (number, rule) in self.sheet.rules.iter().enumerate() {
+            if !has(self.state.broken, number as u8) && says(rule) {
+                found |= one(number as u8);
+            }
+        }
+        found
+    }
+
+    /// Settles an event.
+    fn enter(&mut self, event: u8, fate: Fate, cause: Cause) {
+        self.state.held &= !one(event);
+        match fate {
+            Fate::Done => self.state.done |= one(event),
+            Fate::Refused => self.state.refused |= one(event),
+            Fate::Lapsed => self.state.lapsed |= one(event),
+            Fate::Open | Fate::Held => unreachable!("not a settlement"),
+        }
+        self.history.push(Line { event, fate, cause });
+    }
+}

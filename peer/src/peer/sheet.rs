@@ -1,0 +1,153 @@
+//! Reading a sheet.
+
+use super::rules::Rule;
+use super::set::{has, one, Set};
+
+pub const MOST_EVENTS: usize = 16;
+pub const MOST_RULES: usize = 16;
+pub const STEPS: u8 = 8;
+
+const FORCIBLE: u8 = 1;
+const REJECTABLE: u8 = 2;
+const DELAYABLE: u8 = 4;
+
+/// Body lengths of kinds 0 to 6; kind 0 does not exist.
+const BODY: [Option<usize>; 7] = [None, Some(2), Some(2), Some(2), Some(3), Some(0), Some(1)];
+const END: u8 = 5;
+/// st, pr, cm, ab.
+const FOUR: [u8; 4] = [7, 0, 6, 1];
+
+/// Why and where a sheet is turned down.
+#[derive(Clone, Copy, Debug, PartialEq, Eq)]
+pub struct Refused {
+    pub number: u8,
+    pub offset: usize,
+}
+
+#[derive(Clone, Debug, Default, PartialEq, Eq)]
+pub struct Sheet {
+    /// The step of each event.
+    pub steps: Vec<u8>,
+    pub forcible: Set,
+    pub rejectable: Set,
+    pub delayable: Set,
+    pub rules: Vec<Rule>,
+}
+
+impl Sheet {
+    pub fn read(bytes: &[u8]) -> Result<Sheet, Refused> {
+        let mut sheet = Sheet::default();
+        let mut offset = 0;
+        loop {
+            let refuse = |number| Refused { number, offset };
+            let (kind, body) = split_record(&bytes[offset..]).map_err(refuse)?;
+            if kind == END {
+                break;
+            }
+            sheet.add(kind, body).map_err(refuse)?;
+            offset += 1 + body.len();
+        }
+        offset += 1;
+        if offset < bytes.len() {
+            return Err(Refused { number: 8, offset });
+        }
+        Ok(sheet)
+    }
+
+    pub fn events(&self) -> usize {
+        self.steps.len()
+    }
+
+    /// All declared events.
+    pub fn all(&self) -> Set {
+        ((1u32 << self.events()) - 1) as Set
+    }
+
+    /// The events of a step. A step above 7 has none.
+    pub fn of_step(&self, step: u8) -> Set {
+        let mut found = 0;
+        for (event, own) in self.steps.iter().enumerate() {
+            if *own == step {
+                found |= one(event as u8);
+            }
+        }
+        found
+    }
+
+    fn add(&mut self, kind: u8, body: &[u8]) -> Result<(), u8> {
+        match kind {
+            1 => self.declare(body[0], &body[1..]),
+            6 => self.declare(body[0], &FOUR),
+            _ => self.add_rule(kind, body),
+        }
+    }
+
+    fn declare(&mut self, step: u8, attributes: &[u8]) -> Result<(), u8> {
+        if self.events() + attributes.len() > MOST_EVENTS {
+            return Err(3);
+        }
+        if step >= STEPS {
+            return Err(4);
+        }
+        for &sum in attributes {
+            let stuck = sum & DELAYABLE != 0 && sum & REJECTABLE == 0;
+            if sum > 7 || stuck {
+                return Err(5);
+            }
+            let event = one(self.events() as u8);
+            self.forcible |= if sum & FORCIBLE != 0 { event } else { 0 };
+            self.rejectable |= if sum & REJECTABLE != 0 { event } else { 0 };
+            self.delayable |= if sum & DELAYABLE != 0 { event } else { 0 };
+            self.steps.push(step);
+        }
+        Ok(())
+    }
+
+    fn add_rule(&mut self, kind: u8, named: &[u8]) -> Result<(), u8> {
+        if self.rules.len() >= MOST_RULES {
+            return Err(3);
+        }
+        let mut seen: Set = 0;
+        for &event in named {
+            if usize::from(event) >= self.events() || has(seen, event) {
+                return Err(6);
+            }
+            seen |= one(event);
+        }
+        let rule = match *named {
+            [first, second] if kind == 2 => Rule::Order {
+                first,
+                second,
+                waits: has(self.delayable, second),
+            },
+            [.., goal] => Rule::Follow {
+                triggers: seen & !one(goal),
+                goal,
+            },
+            [] => unreachable!("rules name events"),
+        };
+        if !self.enforceable(&rule) {
+            return Err(7);
+        }
+        self.rules.push(rule);
+        Ok(())
+    }
+
+    fn enforceable(&self, rule: &Rule) -> bool {
+        match *rule {
+            Rule::Order { first, waits, .. } => waits || has(self.rejectable, first),
+            Rule::Follow { triggers, goal } => {
+                triggers & self.rejectable != 0 || has(self.forcible, goal)
+            }
+        }
+    }
+}
+
+/// The kind and body of the record at the front: the kind is checked before the
+/// length.
+fn split_record(rest: &[u8]) -> Result<(u8, &[u8]), u8> {
+    let (&kind, rest) = rest.split_first().ok_or(1)?;
+    let length = BODY.get(usize::from(kind)).copied().flatten().ok_or(2)?;
+    let body = rest.get(..length).ok_or(1)?;
+    Ok((kind, body))
+}

@@ -1,0 +1,96 @@
+//! Random lists of calls.
+
+use super::sheets::Made;
+use super::{random_bytes, Random};
+
+/// A list of calls for a sheet: short, middling or long.
+pub fn calls(random: &mut Random, made: &Made) -> Vec<u8> {
+    let length = match random.below(20) {
+        0..=6 => random.between(0, 6),
+        7..=17 => random.between(5, 40),
+        _ => random.between(40, 400),
+    };
+    let closing = random.pick(&[0, 2, 5, 15, 40]);
+    let mut list = Vec::new();
+    if random.percent(40) {
+        list.extend(all_events(random, made));
+    }
+    for _ in 0..length {
+        list.extend(one_call(random, made, closing));
+    }
+    if random.percent(45) {
+        list.extend(ending(random, made));
+    }
+    match random.below(25) {
+        0 => list.push(random.pick(&[16, 17])),
+        1 => list.insert(random.below(list.len() + 1), random.pick(&[0, 15, 19, 255])),
+        2 => list = random_bytes(random),
+        _ => {}
+    }
+    list
+}
+
+/// Calls of which `closing` per cent close a step.
+pub fn long_list(random: &mut Random, made: &Made, length: usize, closing: u64) -> Vec<u8> {
+    let mut list = Vec::new();
+    for _ in 0..length {
+        list.extend(one_call(random, made, closing));
+    }
+    list
+}
+
+/// Most events, each handed in once, then everything closed and wound up.
+pub fn full_list(random: &mut Random, made: &Made) -> Vec<u8> {
+    let mut list = all_events(random, made);
+    list.extend(ending(random, made));
+    list
+}
+
+/// A hand-in, a closing (`closing` per cent) or a winding up.
+fn one_call(random: &mut Random, made: &Made, closing: u64) -> Vec<u8> {
+    if random.percent(closing) {
+        return if made.steps.is_empty() || random.percent(10) {
+            vec![17, random.pick(&[0, 3, 7, 8, 9, 15, 16, 255])]
+        } else {
+            vec![17, random.pick(&made.steps)]
+        };
+    }
+    if random.percent(3) {
+        vec![18]
+    } else if made.events == 0 || random.percent(3) {
+        vec![16, random.byte()]
+    } else {
+        // One above the last now and then.
+        let beyond = usize::from(random.percent(10));
+        vec![16, random.below(made.events + beyond) as u8]
+    }
+}
+
+/// Most events, each handed in once, in any order.
+fn all_events(random: &mut Random, made: &Made) -> Vec<u8> {
+    let mut events: Vec<u8> = (0..made.events as u8).collect();
+    if random.percent(80) {
+        random.shuffle(&mut events);
+    }
+    let left_out = random.pick(&[0, 0, 0, 1, 2, 4]);
+    events.truncate(events.len().saturating_sub(left_out));
+    events.iter().flat_map(|event| [16, *event]).collect()
+}
+
+/// All steps closed, in any order, and wound up, at times with hand-ins between.
+fn ending(random: &mut Random, made: &Made) -> Vec<u8> {
+    let mut steps = made.steps.clone();
+    random.shuffle(&mut steps);
+    let mut list = Vec::new();
+    for step in steps {
+        list.extend([17, step]);
+        if random.percent(15) {
+            list.extend(one_call(random, made, 0));
+        }
+    }
+    list.push(18);
+    if random.percent(10) {
+        list.push(18);
+    }
+    list
+}

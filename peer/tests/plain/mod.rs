@@ -1,0 +1,285 @@
+//! The words of document 01 taken one by one, with no regard to speed: fates in
+//! an array, and a search that tries every order in turn. The peer's own search
+//! is checked against it.
+
+#[derive(Clone, Copy, PartialEq, Eq, Debug)]
+pub enum Fate {
+    Open,
+    Held,
+    Done,
+    Refused,
+    Lapsed,
+}
+use Fate::{Done, Held, Lapsed, Open, Refused};
+
+#[derive(Clone, Default)]
+pub struct Plain {
+    attributes: Vec<u8>,
+    steps: Vec<u8>,
+    /// Kind and named events.
+    rules: Vec<Vec<u8>>,
+    fates: Vec<Fate>,
+    history: Vec<(u8, Fate)>,
+    broken: Vec<bool>,
+    closed: [bool; 8],
+    refused_calls: usize,
+}
+
+impl Plain {
+    /// Reads a sheet that is known to be admitted.
+    pub fn read(sheet: &[u8]) -> Plain {
+        let mut plain = Plain::default();
+        let mut rest = sheet;
+        while rest[0] != 5 {
+            let length = [0, 3, 3, 3, 4, 1, 2][usize::from(rest[0])];
+            let (record, after) = rest.split_at(length);
+            match record[0] {
+                1 => plain.declare(record[1], &record[2..]),
+                6 => plain.declare(record[1], &[7, 0, 6, 1]),
+                _ => plain.rules.push(record.to_vec()),
+            }
+            rest = after;
+        }
+        plain.broken = vec![false; plain.rules.len()];
+        plain
+    }
+
+    fn declare(&mut self, step: u8, attributes: &[u8]) {
+        for sum in attributes {
+            self.attributes.push(*sum);
+            self.steps.push(step);
+            self.fates.push(Open);
+        }
+    }
+
+    fn fate(&self, event: u8) -> Fate {
+        self.fates[usize::from(event)]
+    }
+
+    fn is(&self, event: u8, attribute: u8) -> bool {
+        self.attributes[usize::from(event)] & attribute != 0
+    }
+
+    fn unsettled(&self, event: u8) -> bool {
+        matches!(self.fate(event), Open | Held)
+    }
+
+    fn gone(&self, event: u8) -> bool {
+        matches!(self.fate(event), Refused | Lapsed)
+    }
+
+    fn done(&self, event: u8) -> bool {
+        self.fate(event) == Done
+    }
+
+    /// Forbids for good, forbids for now.
+    fn forbids(&self, rule: usize, e: u8) -> (bool, bool) {
+        if self.broken[rule] {
+            return (false, false);
+        }
+        match *self.rules[rule] {
+            [2, a, b] => {
+                let waits = e == b && self.is(b, 4) && self.unsettled(a);
+                (e == a && self.done(b), waits)
+            }
+            [3, a, b] => (e == a && self.gone(b), false),
+            [4, a, b, c] => {
+                let second = (e == a && self.done(b)) || (e == b && self.done(a));
+                (second && self.gone(c), false)
+            }
+            _ => unreachable!(),
+        }
+    }
+
+    fn owes(&self, rule: usize) -> bool {
+        if self.broken[rule] {
+            return false;
+        }
+        match *self.rules[rule] {
+            [3, a, b] => self.done(a) && self.unsettled(b),
+            [4, a, b, c] => self.done(a) && self.done(b) && self.unsettled(c),
+            _ => false,
+        }
+    }
+
+    /// Whether the rule holds of the history, by the places in it.
+    fn holds(&self, rule: usize) -> bool {
+        let place = |event: u8| self.history.iter().position(|line| *line == (event, Done));
+        match *self.rules[rule] {
+            [2, a, b] => match (place(a), place(b)) {
+                (Some(first), Some(second)) => first < second,
+                _ => true,
+            },
+            [3, a, b] => place(a).is_none() || place(b).is_some(),
+            [4, a, b, c] => place(a).is_none() || place(b).is_none() || place(c).is_some(),
+            _ => unreachable!(),
+        }
+    }
+
+    /// The first order of exactly `length` events that contains `wanted` (or
+    /// has it behind it) and is viable, by trying all of them.
+    fn order(&mut self, wanted: u8, length: usize) -> Option<Vec<u8>> {
+        if length == 0 {
+            let owing = (0..self.rules.len()).any(|rule| self.owes(rule));
+            return (self.done(wanted) && !owing).then(Vec::new);
+        }
+        for event in 0..self.fates.len() as u8 {
+            let before = self.fate(event);
+            let usable = before == Held || (before == Open && self.is(event, 1));
+            let forbidden = |rule| self.forbids(rule, event).0 || self.forbids(rule, event).1;
+            if !usable || (0..self.rules.len()).any(forbidden) {
+                continue;
+            }
+            self.fates[usize::from(event)] = Done;
+            let rest = self.order(wanted, length - 1);
+            self.fates[usize::from(event)] = before;
+            if let Some(rest) = rest {
+                return Some([vec![event], rest].concat());
+            }
+        }
+        None
+    }
+
+    fn chosen(&mut self, event: u8) -> Option<Vec<u8>> {
+        (1..=6).find_map(|length| self.order(event, length))
+    }
+
+    fn enter(&mut self, event: u8, fate: Fate) {
+        self.fates[usize::from(event)] = fate;
+        self.history.push((event, fate));
+    }
+
+    fn perform(&mut self, order: Vec<u8>) {
+        for event in order {
+            self.enter(event, Done);
+        }
+    }
+
+    fn held(&self) -> Vec<u8> {
+        let all = 0..self.fates.len() as u8;
+        all.filter(|event| self.fate(*event) == Held).collect()
+    }
+
+    fn settle(&mut self) {
+        loop {
+            let rules = 0..self.rules.len();
+            let barred = |event: &u8| rules.clone().any(|rule| self.forbids(rule, *event).0);
+            if let Some(event) = self.held().into_iter().find(barred) {
+                self.enter(event, Refused);
+                continue;
+            }
+            let held = self.held();
+            match held.into_iter().find_map(|event| self.chosen(event)) {
+                Some(order) => self.perform(order),
+                None => return,
+            }
+        }
+    }
+
+    fn submit(&mut self, event: u8) {
+        if usize::from(event) >= self.fates.len() {
+            self.refused_calls += 1;
+            return;
+        }
+        if self.fate(event) != Open {
+            return;
+        }
+        self.fates[usize::from(event)] = Held;
+        if !self.is(event, 4) {
+            if let Some(order) = self.chosen(event) {
+                self.perform(order);
+            } else if self.is(event, 2) {
+                self.enter(event, Refused);
+            } else {
+                self.do_alone(event);
+            }
+        }
+        self.settle();
+    }
+
+    fn do_alone(&mut self, event: u8) {
+        let rules = 0..self.rules.len();
+        let forbid: Vec<(bool, bool)> = rules.map(|rule| self.forbids(rule, event)).collect();
+        self.enter(event, Done);
+        for (rule, ground) in forbid.into_iter().enumerate() {
+            if self.owes(rule) || ground.0 || ground.1 {
+                self.broken[rule] = true;
+            }
+        }
+    }
+
+    fn close_step(&mut self, step: u8) {
+        if !self.steps.contains(&step) || self.closed[usize::from(step)] {
+            self.refused_calls += 1;
+            return;
+        }
+        self.closed[usize::from(step)] = true;
+        for event in 0..self.fates.len() {
+            if self.steps[event] == step && self.fates[event] == Open {
+                self.enter(event as u8, Lapsed);
+            }
+        }
+        self.settle();
+    }
+
+    fn finish(&mut self) {
+        if self
+            .steps
+            .iter()
+            .any(|step| !self.closed[usize::from(*step)])
+        {
+            self.refused_calls += 1;
+            return;
+        }
+        self.settle();
+        while let Some(event) = self.held().first() {
+            self.enter(*event, Refused);
+            self.settle();
+        }
+    }
+
+    /// Runs the calls; after each one the state hangs together.
+    pub fn run(&mut self, mut calls: &[u8]) {
+        while let Some(kind) = calls.first() {
+            match (kind, calls.get(1)) {
+                (16, Some(event)) => self.submit(*event),
+                (17, Some(step)) => self.close_step(*step),
+                (18, _) => self.finish(),
+                _ => {
+                    self.refused_calls += 1;
+                    return;
+                }
+            }
+            calls = &calls[if *kind == 18 { 1 } else { 2 }..];
+            self.check();
+        }
+    }
+
+    /// The conditions of number 12 that a list could break.
+    fn check(&self) {
+        for event in 0..self.fates.len() as u8 {
+            let closed = self.closed[usize::from(self.steps[usize::from(event)])];
+            assert!(self.fate(event) != Held || self.is(event, 4));
+            assert!(self.fate(event) != Open || !closed);
+            let lines = self.history.iter().filter(|line| line.0 == event);
+            let fates: Vec<Fate> = lines.map(|line| line.1).collect();
+            match self.fate(event) {
+                Open | Held => assert!(fates.is_empty()),
+                fate => assert_eq!(fates, [fate]),
+            }
+            assert!(self.fate(event) != Refused || self.is(event, 2));
+        }
+        for rule in 0..self.rules.len() {
+            assert!(self.broken[rule] || (!self.owes(rule) && self.holds(rule)));
+        }
+    }
+
+    pub fn report(&self) -> String {
+        let head = format!("events {} rules {}\n", self.fates.len(), self.rules.len());
+        let line = |(event, fate): &(u8, Fate)| format!("{event} {fate:?}\n").to_lowercase();
+        let lines: String = self.history.iter().map(line).collect();
+        let broken = self.broken.iter().filter(|broken| **broken).count();
+        let (held, refused) = (self.held().len(), self.refused_calls);
+        format!("{head}{lines}held {held}\nbroken {broken}\nrefused calls {refused}\n")
+    }
+}
