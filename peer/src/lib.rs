@@ -1,4 +1,4 @@
-//! A second scheduler for funeral sheets, written from document 01 alone, and
+//! A second scheduler, written from document 01 alone, and
 //! its comparison with the proved library.
 
 pub mod cases;

@@ -1,6 +1,8 @@
-// Runs the reader and the search on small sheets and prints what comes of each: the gate compares it with the file `stdout`.
+// Runs the reader, the search and single calls on small sheets and prints what comes of each: the gate compares it with the file `stdout`.
 use libc::STDOUT_FILENO;
+use scheduler::answer::Answer;
 use scheduler::answer::Fault;
+use scheduler::answer::Reply;
 use scheduler::answer::Verdict;
 use scheduler::event::Fate;
 use scheduler::order::Found;
@@ -80,7 +82,69 @@ fn show_order(name: &[u8], sheet: &[u8], event: u8) {
     io::write_all(STDOUT_FILENO, b"\n");
 }
 
+fn show_fate(fate: Fate) {
+    match fate {
+        Fate::Open => {
+            io::write_all(STDOUT_FILENO, b" open\n");
+        }
+        Fate::Held => {
+            io::write_all(STDOUT_FILENO, b" held\n");
+        }
+        Fate::Done => {
+            io::write_all(STDOUT_FILENO, b" done\n");
+        }
+        Fate::Refused => {
+            io::write_all(STDOUT_FILENO, b" refused\n");
+        }
+        Fate::Lapsed => {
+            io::write_all(STDOUT_FILENO, b" lapsed\n");
+        }
+    }
+}
+
+// What a call answers.
+fn show_answer(answer: Answer) {
+    match answer {
+        Answer::Is(fate) => {
+            show_fate(fate);
+        }
+        Answer::Made => {
+            io::write_all(STDOUT_FILENO, b" made\n");
+        }
+        Answer::TurnedDown(fault) => {
+            io::write_all(STDOUT_FILENO, b" turned down by ");
+            io::print_decimal(STDOUT_FILENO, number_of(fault));
+            io::write_all(STDOUT_FILENO, b"\n");
+        }
+    }
+}
+
+// Shows a call's answer and hands on the state after it.
+fn after_call(call: &[u8], reply: Reply) -> State {
+    let answer = reply.answer;
+    let state = reply.state;
+    io::write_all(STDOUT_FILENO, call);
+    show_answer(answer);
+    state
+}
+
+// Calls of each sort on one sheet, each on the state that the one before gave, and one on a state that was changed by hand.
+fn show_calls(sheet: &[u8]) {
+    let reading = sheet::read::read_sheet(sheet);
+    let first = reading.state;
+    let mut state = after_call(b"hand in 0:", first.submit(0));
+    state = after_call(b"hand in 1:", state.submit(1));
+    state = after_call(b"hand in 2:", state.submit(2));
+    state = after_call(b"close step 0:", state.close_step(0));
+    state = after_call(b"close step 0:", state.close_step(0));
+    state = after_call(b"wind up:", state.finish());
+    let mut torn = first;
+    torn.history_len = 1;
+    after_call(b"hand in 0, a line too many:", torn.submit(0));
+}
+
 fn main() {
+    show_calls(b"\x01\x00\x06\x01\x01\x06\x02\x00\x01\x03\x00\x01\x05");
     show_reading(
         b"A",
         b"\x01\x00\x06\x01\x01\x06\x02\x00\x01\x03\x00\x01\x05",

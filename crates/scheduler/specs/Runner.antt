@@ -1,5 +1,5 @@
 -- The call file, the run of a list, and the report.
-use Rattle.scheduler.specs.Prelude.{ℕ, zero, suc, _+_, _/_, _%_, Bool, true, false, List, [], _∷_, _++_, eqb, ltb, Fate, Open, Held, Done, Refused, Lapsed, Entry, State, Verdict, Admitted, Faulty, Reading, Outcome}
+use Rattle.scheduler.specs.Prelude.{ℕ, zero, suc, _+_, _/_, _%_, Bool, true, false, List, [], _∷_, _++_, eqb, ltb, Fate, Open, Held, Done, Refused, Lapsed, Entry, State, Admitted, Faulty, Reading, Outcome}
 use Rattle.scheduler.specs.Base.{oneIf, countBelow}
 use Rattle.scheduler.specs.State.{eventCount, ruleCount, fateOf, brokenAt, lines, isHeld}
 use Rattle.scheduler.specs.Faults.{Call, submitting, closing, finishing, faultNumber, isTurnedDown, call}

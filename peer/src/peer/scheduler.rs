@@ -1,4 +1,4 @@
-//! The state of one funeral and the three calls.
+//! The state of a sheet under way and the three calls.
 
 use super::search::{Order, Search};
 use super::set::{has, lowest, members, one, Set};

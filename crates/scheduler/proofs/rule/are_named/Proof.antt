@@ -2,32 +2,24 @@ use Rattle.scheduler.specs.Rules.{named}
 use borrow.Author.Needs.{needs}
 use Rattle.scheduler.proofs.rule.are_named.Statement.{statement}
 use Rattle.scheduler.proofs.rule.are_named.Tie as tie
-use Rattle.scheduler.proofs.rule.are_named.Reads as reads
-use Rattle.scheduler.proofs.rule.are_named.Lts as lts
 
--- src/rule.rt:79:21
 enum-known-rule : tie.Need-enum-known-rule
 enum-known-rule c = search needs
 
--- src/rule.rt:80:20
 enum-known-rule-2 : tie.Need-enum-known-rule-2
 enum-known-rule-2 c = search needs
 
--- src/rule.rt:81:27
 enum-known-rule-3 : tie.Need-enum-known-rule-3
 enum-known-rule-3 c = search needs
 
--- src/rule.rt:74:1
 returns : tie.Need-returns
 unfolding named
 returns c = simp (c .before .rule .given .1)
 
--- src/rule.rt:74:1
 returns-2 : tie.Need-returns-2
 unfolding named
 returns-2 c = simp (c .before .rule2 .given .1)
 
--- src/rule.rt:74:1
 returns-3 : tie.Need-returns-3
 unfolding named
 returns-3 c = simp (c .before .rule3 .given .1)

@@ -2,75 +2,54 @@ use Rattle.scheduler.specs.Rules.{bars}
 use borrow.Author.Needs.{needs}
 use Rattle.scheduler.proofs.rule.does_bar.Statement.{statement}
 use Rattle.scheduler.proofs.rule.does_bar.Tie as tie
-use Rattle.scheduler.proofs.rule.does_bar.Reads as reads
-use Rattle.scheduler.proofs.rule.does_bar.Lts as lts
-use Rattle.scheduler.proofs.event.is_done.Reads as is-done-reads
-use Rattle.scheduler.proofs.event.is_gone.Reads as is-gone-reads
-use Rattle.scheduler.proofs.state.fate_in.Reads as fate-in-reads
 
--- src/rule.rt:28:21
 enum-known-rule : tie.Need-enum-known-rule
 enum-known-rule c = search needs
 
--- src/rule.rt:28:53
 fate-in-requires : tie.Need-fate-in-requires
 fate-in-requires c κs = search needs
 
--- src/rule.rt:28:45
 is-done-requires : tie.Need-is-done-requires
 is-done-requires c κs = search needs
 
--- src/rule.rt:29:20
 enum-known-rule-2 : tie.Need-enum-known-rule-2
 enum-known-rule-2 c = search needs
 
--- src/rule.rt:29:52
 fate-in-requires-2 : tie.Need-fate-in-requires-2
 fate-in-requires-2 c κs = search needs
 
--- src/rule.rt:29:44
 is-gone-requires : tie.Need-is-gone-requires
 is-gone-requires c κs = search needs
 
--- src/rule.rt:30:27
 enum-known-rule-3 : tie.Need-enum-known-rule-3
 enum-known-rule-3 c = search needs
 
--- src/rule.rt:31:21
 fate-in-requires-3 : tie.Need-fate-in-requires-3
 fate-in-requires-3 c κs = search needs
 
--- src/rule.rt:31:13
 is-gone-requires-2 : tie.Need-is-gone-requires-2
 is-gone-requires-2 c κs = search needs
 
--- src/rule.rt:32:44
 fate-in-requires-4 : tie.Need-fate-in-requires-4
 fate-in-requires-4 c κs = search needs
 
--- src/rule.rt:32:36
 is-done-requires-2 : tie.Need-is-done-requires-2
 is-done-requires-2 c κs = search needs
 
--- src/rule.rt:33:47
 fate-in-requires-5 : tie.Need-fate-in-requires-5
 fate-in-requires-5 c κs = search needs
 
--- src/rule.rt:33:39
 is-done-requires-3 : tie.Need-is-done-requires-3
 is-done-requires-3 c κs = search needs
 
--- src/rule.rt:24:1
 returns : tie.Need-returns
 unfolding bars
 returns c = simp (c .before .before .before .rule .given .1, c .is-done .ensures, c .before .fate-in .ensures)
 
--- src/rule.rt:24:1
 returns-2 : tie.Need-returns-2
 unfolding bars
 returns-2 c = simp (c .before .before .before .rule2 .given .1, c .is-gone .ensures, c .before .fate-in2 .ensures)
 
--- src/rule.rt:24:1
 returns-3 : tie.Need-returns-3
 unfolding bars
 returns-3 c = simp (c .before .before .before .before .before .before .before .rule3 .given .1, c .is-done3 .ensures, c .before .fate-in5 .ensures, c .before .before .is-done2 .ensures, c .before .before .before .fate-in4 .ensures, c .before .before .before .before .is-gone2 .ensures, c .before .before .before .before .before .fate-in3 .ensures)

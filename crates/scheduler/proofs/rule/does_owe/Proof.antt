@@ -2,75 +2,54 @@ use Rattle.scheduler.specs.Rules.{owes}
 use borrow.Author.Needs.{needs}
 use Rattle.scheduler.proofs.rule.does_owe.Statement.{statement}
 use Rattle.scheduler.proofs.rule.does_owe.Tie as tie
-use Rattle.scheduler.proofs.rule.does_owe.Reads as reads
-use Rattle.scheduler.proofs.rule.does_owe.Lts as lts
-use Rattle.scheduler.proofs.event.is_done.Reads as is-done-reads
-use Rattle.scheduler.proofs.event.is_settled.Reads as is-settled-reads
-use Rattle.scheduler.proofs.state.fate_in.Reads as fate-in-reads
 
--- src/rule.rt:61:21
 enum-known-rule : tie.Need-enum-known-rule
 enum-known-rule c = search needs
 
--- src/rule.rt:62:20
 enum-known-rule-2 : tie.Need-enum-known-rule-2
 enum-known-rule-2 c = search needs
 
--- src/rule.rt:62:37
 fate-in-requires : tie.Need-fate-in-requires
 fate-in-requires c κs = search needs
 
--- src/rule.rt:62:29
 is-done-requires : tie.Need-is-done-requires
 is-done-requires c κs = search needs
 
--- src/rule.rt:62:74
 fate-in-requires-2 : tie.Need-fate-in-requires-2
 fate-in-requires-2 c κs = search needs
 
--- src/rule.rt:62:63
 is-settled-requires : tie.Need-is-settled-requires
 is-settled-requires c κs = search needs
 
--- src/rule.rt:63:27
 enum-known-rule-3 : tie.Need-enum-known-rule-3
 enum-known-rule-3 c = search needs
 
--- src/rule.rt:64:21
 fate-in-requires-3 : tie.Need-fate-in-requires-3
 fate-in-requires-3 c κs = search needs
 
--- src/rule.rt:64:13
 is-done-requires-2 : tie.Need-is-done-requires-2
 is-done-requires-2 c κs = search needs
 
--- src/rule.rt:65:27
 fate-in-requires-4 : tie.Need-fate-in-requires-4
 fate-in-requires-4 c κs = search needs
 
--- src/rule.rt:65:19
 is-done-requires-3 : tie.Need-is-done-requires-3
 is-done-requires-3 c κs = search needs
 
--- src/rule.rt:66:31
 fate-in-requires-5 : tie.Need-fate-in-requires-5
 fate-in-requires-5 c κs = search needs
 
--- src/rule.rt:66:20
 is-settled-requires-2 : tie.Need-is-settled-requires-2
 is-settled-requires-2 c κs = search needs
 
--- src/rule.rt:57:1
 returns : tie.Need-returns
 unfolding owes
 returns c = simp (c .before .rule .given .1)
 
--- src/rule.rt:57:1
 returns-2 : tie.Need-returns-2
 unfolding owes
 returns-2 c = simp (c .before .before .before .before .before .rule2 .given .1, c .is-settled .ensures, c .before .fate-in2 .ensures, c .before .before .is-done .ensures, c .before .before .before .fate-in .ensures)
 
--- src/rule.rt:57:1
 returns-3 : tie.Need-returns-3
 unfolding owes
 returns-3 c = simp (c .before .before .before .before .before .before .before .rule3 .given .1, c .is-settled2 .ensures, c .before .fate-in5 .ensures, c .before .before .is-done3 .ensures, c .before .before .before .fate-in4 .ensures, c .before .before .before .before .is-done2 .ensures, c .before .before .before .before .before .fate-in3 .ensures)

@@ -2,52 +2,36 @@ use Rattle.scheduler.specs.Rules.{makesWait}
 use borrow.Author.Needs.{needs}
 use Rattle.scheduler.proofs.rule.makes_wait.Statement.{statement}
 use Rattle.scheduler.proofs.rule.makes_wait.Tie as tie
-use Rattle.scheduler.proofs.rule.makes_wait.Reads as reads
-use Rattle.scheduler.proofs.rule.makes_wait.Lts as lts
-use Rattle.scheduler.proofs.event.is_delayable.Reads as is-delayable-reads
-use Rattle.scheduler.proofs.event.is_settled.Reads as is-settled-reads
-use Rattle.scheduler.proofs.state.attributes_in.Reads as attributes-in-reads
-use Rattle.scheduler.proofs.state.fate_in.Reads as fate-in-reads
 
--- src/rule.rt:48:21
 enum-known-rule : tie.Need-enum-known-rule
 enum-known-rule c = search needs
 
--- src/rule.rt:49:41
 attributes-in-requires : tie.Need-attributes-in-requires
 attributes-in-requires c κs = search needs
 
--- src/rule.rt:49:28
 is-delayable-requires : tie.Need-is-delayable-requires
 is-delayable-requires c κs = search needs
 
--- src/rule.rt:49:81
 fate-in-requires : tie.Need-fate-in-requires
 fate-in-requires c κs = search needs
 
--- src/rule.rt:49:70
 is-settled-requires : tie.Need-is-settled-requires
 is-settled-requires c κs = search needs
 
--- src/rule.rt:51:20
 enum-known-rule-2 : tie.Need-enum-known-rule-2
 enum-known-rule-2 c = search needs
 
--- src/rule.rt:52:27
 enum-known-rule-3 : tie.Need-enum-known-rule-3
 enum-known-rule-3 c = search needs
 
--- src/rule.rt:39:1
 returns : tie.Need-returns
 unfolding makesWait
 returns c = simp (c .before .before .before .before .before .rule .given .1, c .is-settled .ensures, c .before .fate-in .ensures, c .before .before .is-delayable .ensures, c .before .before .before .attributes-in .ensures)
 
--- src/rule.rt:39:1
 returns-2 : tie.Need-returns-2
 unfolding makesWait
 returns-2 c = simp (c .before .rule2 .given .1)
 
--- src/rule.rt:39:1
 returns-3 : tie.Need-returns-3
 unfolding makesWait
 returns-3 c = simp (c .before .rule3 .given .1)

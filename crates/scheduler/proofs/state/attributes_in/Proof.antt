@@ -2,22 +2,16 @@ use borrow.Author.Tests.{lt-ltb, le-ltb}
 use borrow.Author.Needs.{needs}
 use Rattle.scheduler.proofs.state.attributes_in.Statement.{statement}
 use Rattle.scheduler.proofs.state.attributes_in.Tie as tie
-use Rattle.scheduler.proofs.state.attributes_in.Reads as reads
-use Rattle.scheduler.proofs.state.attributes_in.Lts as lts
 
--- src/state.rt:60:21
 mul-found : tie.Need-mul-found
 mul-found c = search needs
 
--- src/state.rt:60:21
 array-copy-out-found : tie.Need-array-copy-out-found
 array-copy-out-found c = search needs
 
--- src/state.rt:56:1
 returns : tie.Need-returns
 returns c = simp (lt-ltb _ _ (c .before .if1 .taken))
 
--- src/state.rt:56:1
 returns-2 : tie.Need-returns-2
 returns-2 c = simp (le-ltb _ _ (c .if1 .left))
 

@@ -2,18 +2,13 @@ use borrow.Author.Tests.{lt-ltb, le-ltb}
 use borrow.Author.Needs.{needs}
 use Rattle.scheduler.proofs.state.fate_in.Statement.{statement}
 use Rattle.scheduler.proofs.state.fate_in.Tie as tie
-use Rattle.scheduler.proofs.state.fate_in.Reads as reads
-use Rattle.scheduler.proofs.state.fate_in.Lts as lts
 
--- src/state.rt:47:24
 array-copy-out-standing : tie.Need-array-copy-out-standing
 array-copy-out-standing c = search needs
 
--- src/state.rt:43:1
 returns : tie.Need-returns
 returns c = simp (lt-ltb _ _ (c .before .if1 .taken))
 
--- src/state.rt:43:1
 returns-2 : tie.Need-returns-2
 returns-2 c = simp (le-ltb _ _ (c .if1 .left))
 

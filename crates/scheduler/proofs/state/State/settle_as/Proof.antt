@@ -3,61 +3,46 @@ use borrow.Author.Tests.{lt-ltb, le-ltb}
 use borrow.Author.Needs.{needs}
 use Rattle.scheduler.proofs.state.State.settle_as.Statement.{statement}
 use Rattle.scheduler.proofs.state.State.settle_as.Tie as tie
-use Rattle.scheduler.proofs.state.State.settle_as.Reads as reads
-use Rattle.scheduler.proofs.state.State.settle_as.Lts as lts
 
--- src/state.rt:87:13
 element-set-from-next : tie.Need-element-set-from-next
 element-set-from-next c = search needs
 
--- src/state.rt:89:30
 cast-t13 : tie.Need-cast-t13
 cast-t13 c = search needs
 
--- src/state.rt:89:17
 mul-t14 : tie.Need-mul-t14
 mul-t14 c = search needs
 
--- src/state.rt:89:17
 element-set-from-next-2 : tie.Need-element-set-from-next-2
 element-set-from-next-2 c = search needs
 
--- src/state.rt:90:36
 add-next : tie.Need-add-next
 add-next c = search needs
 
--- src/state.rt:91:17
 returns : tie.Need-returns
 unfolding settleAs
 returns c = simp (lt-ltb _ _ (c .before .if1 .taken), lt-ltb _ _ (c .if2 .taken))
 
--- src/state.rt:93:13
 returns-2 : tie.Need-returns-2
 unfolding settleAs
 returns-2 c = simp (lt-ltb _ _ (c .before .if1 .taken), le-ltb _ _ (c .if2 .left))
 
--- src/state.rt:96:26
 cast-t19 : tie.Need-cast-t19
 cast-t19 c = search needs
 
--- src/state.rt:96:13
 mul-t20 : tie.Need-mul-t20
 mul-t20 c = search needs
 
--- src/state.rt:96:13
 element-set-from-next-3 : tie.Need-element-set-from-next-3
 element-set-from-next-3 c = search needs
 
--- src/state.rt:97:32
 add-next-2 : tie.Need-add-next-2
 add-next-2 c = search needs
 
--- src/state.rt:98:13
 returns-3 : tie.Need-returns-3
 unfolding settleAs
 returns-3 c = simp (le-ltb _ _ (c .before .if1 .left), lt-ltb _ _ (c .if3 .taken))
 
--- src/state.rt:81:5
 returns-4 : tie.Need-returns-4
 unfolding settleAs
 returns-4 c = simp (le-ltb _ _ (c .before .if1 .left), le-ltb _ _ (c .if3 .left))
