@@ -7,11 +7,12 @@ use native.Mathlib.Numerals.{add-one}
 use native.Mathlib.Omega.{arith}
 use lib.ListN.{length, getD, drop, List·getD-eq-default}
 use lib.Seq.{drop-cons}
-use borrow.Author.Tests.{eq-eqb, ne-eqb}
+use borrow.Author.Tests.{lt-ltb, le-ltb, eq-eqb, ne-eqb}
 use Rattle.scheduler.specs.State.{eventCount, firstState, emptyState}
-use Rattle.scheduler.specs.Sheet.{ruleOf, addEvent, addRule, addEvents, table1, declare}
-use Rattle.sheet.specs.Types.{State, Verdict, Admitted, Faulty, Order, Need, Conditional, Plan, Fault, Fine, Bad}
+use Rattle.scheduler.specs.Sheet.{bodyLength, ruleOf, addEvent, addRule, addEvents, table1, declare}
+use Rattle.sheet.specs.Types.{State, Verdict, Admitted, Faulty, Order, Need, Conditional, Plan, Fault, Record, Fine, Bad}
 use Rattle.sheet.specs.Progress.{recordAt, checkOf, readingOf}
+use Rattle.sheet.specs.Place.{placeAfter}
 
 -- past the end of a list of bytes every byte is 0
 pub past-end : (b : List ℕ) (at : ℕ) → length b ≤ at → 0 ≡ getD b at 0
@@ -19,6 +20,14 @@ past-end b at h = sym (List·getD-eq-default b 0 {n = at} h)
 
 pub past-record : (b : List ℕ) (at : ℕ) → length b ≤ at → record { kind = 0; x = 0; y = 0; z = 0 } ≡ recordAt b at
 past-record b at h = simp (← past-end b at h, ← past-end b (at + 1) (omega arith), ← past-end b (at + 2) (omega arith), ← past-end b (at + 3) (omega arith))
+
+-- the branches of `placeAfter`
+module _ (len at : ℕ) (r : Record) where
+  pub place-inside : at < len → placeAfter len at r ≡ at + 1 + bodyLength (r .kind)
+  place-inside h = rw (lt-ltb at len h, placeAfter)
+
+  pub place-past : len ≤ at → placeAfter len at r ≡ at
+  place-past h = rw (le-ltb at len h, placeAfter)
 
 -- a kind 6 record's events, one after another
 pub add-next : (p : Plan) (k i : ℕ) → i < length table1 → addEvents (addEvent p k (getD table1 i 0)) k (drop (i + 1) table1) ≡ addEvents p k (drop i table1)
@@ -35,13 +44,13 @@ unfolding addEvent
 count-next p k a = refl
 
 -- what a check answers tells the fault
-pub check-bad : (o : Option Fault) (size : ℕ) (f : Fault) → Bad f ≡ checkOf o size → o ≡ some f
-check-bad none size f e = cc
-check-bad (some g) size f e = cc
+pub check-bad : (o : Option Fault) (f : Fault) → Bad f ≡ checkOf o → o ≡ some f
+check-bad none f e = cc
+check-bad (some g) f e = cc
 
-pub check-fine : (o : Option Fault) (size n : ℕ) → Fine n ≡ checkOf o size → (o ≡ none) × (n ≡ size)
-check-fine none size n e = (refl, cc)
-check-fine (some g) size n e = (cc, cc)
+pub check-fine : (o : Option Fault) → Fine ≡ checkOf o → o ≡ none
+check-fine none e = refl
+check-fine (some g) e = cc
 
 -- the branches of `ruleOf`, of `declare` and of `readingOf`
 module _ (k x y z : ℕ) where

@@ -9,61 +9,48 @@ use native.Mathlib.Omega.{arith}
 use borrow.Author.Tests.{lt-ltb, le-ltb, eq-eqb, ne-eqb}
 use lib.Dec.{eqb, ltb}
 use lib.ListN.{length}
-use Rattle.scheduler.specs.State.{emptyPlan}
 use Rattle.scheduler.specs.Sheet.{whole, faulty, bodyLength, declare, ending, readFrom, readPlan, readSheet}
 use Rattle.scheduler.proofs.Tests.{clash, either}
 use Rattle.scheduler.proofs.Budgets.{read-enough}
 use Rattle.sheet.specs.Types.{Plan, Fault, Extra, Check, Fine, Bad, Verdict, Admitted, Faulty, Record, Progress}
-use Rattle.sheet.specs.Progress.{recordAt, faultOf, checkOf, verdictOf, endVerdict, stopped, takeRecord, readingOf}
-use Rattle.sheet.proofs.Pieces.{check-bad, check-fine}
-use Rattle.sheet.proofs.Passed.{Passed, passed}
+use Rattle.sheet.specs.Progress.{recordAt, faultOf, checkOf, verdictOf, endVerdict, started, stopped, takeRecord, readingOf}
+use Rattle.sheet.specs.Place.{placeAfter}
+use Rattle.sheet.proofs.Pieces.{place-inside, check-bad, check-fine}
+use Rattle.sheet.proofs.Passed.{passed}
 
 -- the branches of `takeRecord`
-module _ (p : Progress) (len : ℕ) (r : Record) where
+module _ (p : Progress) (len at : ℕ) (r : Record) where
   abbrev next : Progress
-  next = record { plan = declare (p .plan) (r .kind) (r .x) (r .y) (r .z); at = p .at + 1 + bodyLength (r .kind); going = true; verdict = Admitted }
+  next = record { plan = declare (p .plan) (r .kind) (r .x) (r .y) (r .z); going = true; verdict = Admitted }
 
-  take-fault : (f : Fault) → faultOf (p .plan) len (p .at) r ≡ some f → takeRecord p len r ≡ stopped p (Faulty f (p .at))
+  take-fault : (f : Fault) → faultOf (p .plan) len at r ≡ some f → takeRecord p len at r ≡ stopped p (Faulty f at)
   unfolding takeRecord
   take-fault f h = rw (h, takeRecord)
 
-  take-end : faultOf (p .plan) len (p .at) r ≡ none → eqb (r .kind) 5 ≡ true → takeRecord p len r ≡ stopped p (endVerdict len (p .at))
+  take-end : faultOf (p .plan) len at r ≡ none → eqb (r .kind) 5 ≡ true → takeRecord p len at r ≡ stopped p (endVerdict len at)
   unfolding takeRecord
   take-end h k = rw (h, k, takeRecord)
 
-  take-next : faultOf (p .plan) len (p .at) r ≡ none → eqb (r .kind) 5 ≡ false → takeRecord p len r ≡ next
+  take-next : faultOf (p .plan) len at r ≡ none → eqb (r .kind) 5 ≡ false → takeRecord p len at r ≡ next
   unfolding takeRecord
   take-next h k = rw (h, k, takeRecord)
 
   -- the same by what the record's check answered
-  pub taken-bad : (check : Check) (f : Fault) (v : Verdict) → check ≡ checkOf (faultOf (p .plan) len (p .at) r) (1 + bodyLength (r .kind)) → check ≡ Bad f → v ≡ verdictOf check (p .at) → stopped p v ≡ takeRecord p len r
-  taken-bad check f v e h ev = rw (ev, h) (sym (take-fault f (check-bad _ _ f (sym h ∙ e))))
+  pub taken-bad : (check : Check) (f : Fault) (v : Verdict) → check ≡ checkOf (faultOf (p .plan) len at r) → check ≡ Bad f → v ≡ verdictOf check at → stopped p v ≡ takeRecord p len at r
+  taken-bad check f v e h ev = rw (ev, h) (sym (take-fault f (check-bad _ f (sym h ∙ e))))
 
--- the check found no fault, and the record's bytes are n
-pub record Checked (p : Progress) (len : ℕ) (r : Record) (n : ℕ) : Type 0 where
-  pub no-fault : faultOf (p .plan) len (p .at) r ≡ none
-  pub size : n ≡ 1 + bodyLength (r .kind)
+  pub no-fault : (check : Check) → check ≡ checkOf (faultOf (p .plan) len at r) → check ≡ Fine → faultOf (p .plan) len at r ≡ none
+  no-fault check e h = check-fine (faultOf (p .plan) len at r) (sym h ∙ e)
 
-pub checked : (p : Progress) (len : ℕ) (r : Record) (n : ℕ) (check : Check) → check ≡ checkOf (faultOf (p .plan) len (p .at) r) (1 + bodyLength (r .kind)) → check ≡ Fine n → Checked p len r n
-checked p len r n check e h = let t = check-fine (faultOf (p .plan) len (p .at) r) _ n (sym h ∙ e) in record { no-fault = t .0; size = t .1 }
+  module _ (t : faultOf (p .plan) len at r ≡ none) where
+    pub taken-extra : r .kind ≡ 5 → at + 1 < len → stopped p (Faulty Extra (at + 1)) ≡ takeRecord p len at r
+    taken-extra k l = sym (take-end t (eq-eqb (r .kind) 5 k) ∙ rw (lt-ltb (at + 1) len l, endVerdict))
 
-module _ {p : Progress} {len : ℕ} {r : Record} {n : ℕ} (t : Checked p len r n) where
-  pub fine-passed : Passed (p .plan) len (p .at) r
-  fine-passed = passed (p .plan) len (p .at) r (t .no-fault)
+    pub taken-end : r .kind ≡ 5 → len ≤ at + 1 → stopped p Admitted ≡ takeRecord p len at r
+    taken-end k l = sym (take-end t (eq-eqb (r .kind) 5 k) ∙ rw (le-ltb (at + 1) len l, endVerdict))
 
-  pub fine-fits : p .at + n ≤ len
-  fine-fits = omega (arith, fine-passed .whole)
-
-  pub taken-extra : r .kind ≡ 5 → p .at + 1 < len → stopped p (Faulty Extra (p .at + 1)) ≡ takeRecord p len r
-  taken-extra k l = sym (take-end p len r (t .no-fault) (eq-eqb (r .kind) 5 k) ∙ rw (lt-ltb (p .at + 1) len l, endVerdict))
-
-  pub taken-end : r .kind ≡ 5 → len ≤ p .at + 1 → stopped p Admitted ≡ takeRecord p len r
-  taken-end k l = sym (take-end p len r (t .no-fault) (eq-eqb (r .kind) 5 k) ∙ rw (le-ltb (p .at + 1) len l, endVerdict))
-
-  pub taken-next : (q : Plan) → (r .kind ≡ 5 → ⊥) → q ≡ declare (p .plan) (r .kind) (r .x) (r .y) (r .z) → record { plan = q; at = p .at + n; going = true; verdict = Admitted } ≡ takeRecord p len r
-  taken-next q k e =
-      let m : p .at + n ≡ p .at + 1 + bodyLength (r .kind) = omega arith in
-      rw (e, m) (sym (take-next p len r (t .no-fault) (ne-eqb (r .kind) 5 k)))
+    pub taken-next : (q : Plan) → (r .kind ≡ 5 → ⊥) → q ≡ declare (p .plan) (r .kind) (r .x) (r .y) (r .z) → record { plan = q; going = true; verdict = Admitted } ≡ takeRecord p len at r
+    taken-next q k e = rw e (sym (take-next t (ne-eqb (r .kind) 5 k)))
 
 -- the branches of `readFrom`
 module _ (n : ℕ) (b : List ℕ) (at : ℕ) (p : Plan) where
@@ -104,62 +91,67 @@ pub record Left (b : List ℕ) (at : ℕ) (p : Plan) : Type 0 where
   pub enough : length b ≤ budget + at
   pub same : readFrom (suc budget) b at p ≡ readPlan b
 
--- a reading under way, or stopped
-pub record Underway (b : List ℕ) (p : Progress) : Type 0 where
-  pub on : p .going ≡ true → Left b (p .at) (p .plan)
+-- a reading under way at an offset, or stopped
+pub record Underway (b : List ℕ) (at : ℕ) (p : Progress) : Type 0 where
+  pub on : p .going ≡ true → Left b at (p .plan)
   pub done : p .going ≡ false → readingOf (p .verdict) (p .plan) ≡ readSheet b
 
-abbrev pub leftOf : List ℕ → Progress → ℕ
-leftOf b p = cond (p .going) (suc (length b - p .at)) 0
+abbrev pub leftOf : List ℕ → ℕ → Progress → ℕ
+leftOf b at p = cond (p .going) (suc (length b - at)) 0
 
-pub started : (b : List ℕ) (q : Plan) → q ≡ emptyPlan → Underway b (record { plan = q; at = 0; going = true; verdict = Admitted })
-started b q e = rw e (record {
+pub begins : (b : List ℕ) → Underway b 0 started
+begins b = record {
   on = λ g. record { budget = length b; enough = omega arith; same = read-enough (suc (length b)) b (omega arith) };
   done = λ g. absurd (clash refl g);
-})
+}
 
-is-stopped : (b : List ℕ) (p : Progress) (v : Verdict) → readingOf v (p .plan) ≡ readSheet b → Underway b (stopped p v)
-is-stopped b p v h = record { on = λ g. absurd (clash g refl); done = λ g. h }
+is-stopped : (b : List ℕ) (at : ℕ) (p : Progress) (v : Verdict) → readingOf v (p .plan) ≡ readSheet b → Underway b at (stopped p v)
+is-stopped b at p v h = record { on = λ g. absurd (clash g refl); done = λ g. h }
 
--- a turn: the record at the offset is taken
-module _ (b : List ℕ) (p : Progress) where
+-- a turn: the record at the offset is taken, and the offset is the next record's
+module _ (b : List ℕ) (at : ℕ) (p : Progress) (g : p .going ≡ true) where
   abbrev rec : Record
-  rec = recordAt b (p .at)
+  rec = recordAt b at
 
-  turn : Left b (p .at) (p .plan) → Underway b (takeRecord p (length b) rec)
-  turn l = go (faultOf (p .plan) (length b) (p .at) rec) refl
+  abbrev len : ℕ
+  len = length b
+
+  abbrev after : ℕ
+  after = placeAfter len at rec
+
+  abbrev taken : Progress
+  taken = takeRecord p len at rec
+
+  module _ (h : faultOf (p .plan) len at rec ≡ none) where
+    moved : after ≡ at + 1 + bodyLength (rec .kind)
+    moved = place-inside len at rec (passed (p .plan) len at rec h .inside)
+
+  pub again : Underway b at p → Underway b after taken
+  again u = go (faultOf (p .plan) len at rec) refl
     where
-      more : (n : ℕ) → length b ≤ n + p .at → readFrom (suc n) b (p .at) (p .plan) ≡ readPlan b → faultOf (p .plan) (length b) (p .at) rec ≡ none → eqb (rec .kind) 5 ≡ false → Underway b (next p (length b) rec)
-      more zero e s h k = absurd (omega (arith, passed (p .plan) (length b) (p .at) rec h .inside))
-      more (suc n) e s h k = record { on = λ g. record { budget = n; enough = omega arith; same = sym (read-next (suc n) b (p .at) (p .plan) h k) ∙ s }; done = λ g. absurd (clash refl g) }
+      l : Left b at (p .plan)
+      l = u .on g
 
-      go : (o : Option Fault) → faultOf (p .plan) (length b) (p .at) rec ≡ o → Underway b (takeRecord p (length b) rec)
-      go (some f) h = rw (take-fault p (length b) rec f h) (is-stopped b p _ (sheet-faulty b f (p .at) (p .plan) (sym (l .same) ∙ read-fault (l .budget) b (p .at) (p .plan) f h)))
+      more : (n : ℕ) → len ≤ n + at → readFrom (suc n) b at (p .plan) ≡ readPlan b → faultOf (p .plan) len at rec ≡ none → eqb (rec .kind) 5 ≡ false → Underway b after (next p len at rec)
+      more zero e s h k = absurd (omega (arith, passed (p .plan) len at rec h .inside))
+      more (suc n) e s h k = rw (moved h) (record { on = λ g′. record { budget = n; enough = omega arith; same = sym (read-next (suc n) b at (p .plan) h k) ∙ s }; done = λ g′. absurd (clash refl g′) })
+
+      go : (o : Option Fault) → faultOf (p .plan) len at rec ≡ o → Underway b after taken
+      go (some f) h = rw (take-fault p len at rec f h) (is-stopped b after p _ (sheet-faulty b f at (p .plan) (sym (l .same) ∙ read-fault (l .budget) b at (p .plan) f h)))
       go none h = elim (either (eqb (rec .kind) 5)) [
-        | inl k ↦ rw (take-end p (length b) rec h k) (is-stopped b p _ (sheet-end b (p .at) (p .plan) (sym (l .same) ∙ read-end (l .budget) b (p .at) (p .plan) h k)))
-        | inr k ↦ rw (take-next p (length b) rec h k) (more (l .budget) (l .enough) (l .same) h k)
+        | inl k ↦ rw (take-end p len at rec h k) (is-stopped b after p _ (sheet-end b at (p .plan) (sym (l .same) ∙ read-end (l .budget) b at (p .plan) h k)))
+        | inr k ↦ rw (take-next p len at rec h k) (more (l .budget) (l .enough) (l .same) h k)
       ]
 
-  falls : p .going ≡ true → leftOf b (takeRecord p (length b) rec) < leftOf b p
-  falls g = go (faultOf (p .plan) (length b) (p .at) rec) refl
+  pub less : leftOf b after taken < leftOf b at p
+  less = go (faultOf (p .plan) len at rec) refl
     where
-      now-left : leftOf b p ≡ suc (length b - p .at)
-      now-left = ap (λ (t : Bool). cond t (suc (length b - p .at)) 0) g
+      now-left : leftOf b at p ≡ suc (len - at)
+      now-left = ap (λ (t : Bool). cond t (suc (len - at)) 0) g
 
-      go : (o : Option Fault) → faultOf (p .plan) (length b) (p .at) rec ≡ o → leftOf b (takeRecord p (length b) rec) < leftOf b p
-      go (some f) h = omega (arith, now-left, ap (leftOf b) (take-fault p (length b) rec f h))
+      go : (o : Option Fault) → faultOf (p .plan) len at rec ≡ o → leftOf b after taken < leftOf b at p
+      go (some f) h = omega (arith, now-left, ap (leftOf b after) (take-fault p len at rec f h))
       go none h = elim (either (eqb (rec .kind) 5)) [
-        | inl k ↦ omega (arith, now-left, ap (leftOf b) (take-end p (length b) rec h k))
-        | inr k ↦ omega (arith, now-left, ap (leftOf b) (take-next p (length b) rec h k), passed (p .plan) (length b) (p .at) rec h .whole)
+        | inl k ↦ omega (arith, now-left, ap (leftOf b after) (take-end p len at rec h k))
+        | inr k ↦ omega (arith, now-left, ap (leftOf b after) (take-next p len at rec h k), moved h, passed (p .plan) len at rec h .whole)
       ]
-
--- the same of what the code has after its turn
-module _ (b : List ℕ) (p t : Progress) (r : Record) (er : r ≡ recordAt b (p .at)) (et : t ≡ takeRecord p (length b) r) (g : p .going ≡ true) where
-  whole-turn : t ≡ takeRecord p (length b) (recordAt b (p .at))
-  whole-turn = et ∙ ap (takeRecord p (length b)) er
-
-  pub again : Underway b p → Underway b t
-  again u = rw whole-turn (turn b p (u .on g))
-
-  pub less : leftOf b t < leftOf b p
-  less = omega (arith, ap (leftOf b) whole-turn, falls b p g)

@@ -24,53 +24,53 @@ attributesRow r = eqb (r .kind) 1 && badAttributes (r .y)
 pub attributes-row : (r : Record) (t : Bool) → t ≡ badAttributes (r .y) → attributesRow r ≡ (eqb (r .kind) 1 && t)
 attributes-row r t e = rw e
 
-module _ (p : Plan) (r : Rule) (size : ℕ) where
-  pub bad-names : named p r ≡ false → Bad BadNames ≡ checkOf (ruleFault p r) size
+module _ (p : Plan) (r : Rule) where
+  pub bad-names : named p r ≡ false → Bad BadNames ≡ checkOf (ruleFault p r)
   unfolding ruleFault firstFault
   bad-names a = simp a
 
-  pub bad-rule : named p r ≡ true → enforceable p r ≡ false → Bad Unenforceable ≡ checkOf (ruleFault p r) size
+  pub bad-rule : named p r ≡ true → enforceable p r ≡ false → Bad Unenforceable ≡ checkOf (ruleFault p r)
   unfolding ruleFault firstFault
   bad-rule a b = simp (a, b)
 
-  pub fine-rule : named p r ≡ true → enforceable p r ≡ true → Fine size ≡ checkOf (ruleFault p r) size
+  pub fine-rule : named p r ≡ true → enforceable p r ≡ true → Fine ≡ checkOf (ruleFault p r)
   unfolding ruleFault firstFault
   fine-rule a b = simp (a, b)
 
-module _ (p : Plan) (r : Record) (size : ℕ) where
-  pub bad-step : stepRow r ≡ true → Bad BadStep ≡ checkOf (bodyFault p r) size
+module _ (p : Plan) (r : Record) where
+  pub bad-step : stepRow r ≡ true → Bad BadStep ≡ checkOf (bodyFault p r)
   unfolding bodyFault firstFault
   bad-step a = simp a
 
-  pub bad-attributes : stepRow r ≡ false → attributesRow r ≡ true → Bad BadAttributes ≡ checkOf (bodyFault p r) size
+  pub bad-attributes : stepRow r ≡ false → attributesRow r ≡ true → Bad BadAttributes ≡ checkOf (bodyFault p r)
   unfolding bodyFault firstFault
   bad-attributes a b = simp (a, b)
 
-  pub rule-next : (q : Rule) → q ≡ ruleOf (r .kind) (r .x) (r .y) (r .z) → stepRow r ≡ false → attributesRow r ≡ false → newRules (r .kind) ≡ 1 → checkOf (ruleFault p q) size ≡ checkOf (bodyFault p r) size
+  pub rule-next : (q : Rule) → q ≡ ruleOf (r .kind) (r .x) (r .y) (r .z) → stepRow r ≡ false → attributesRow r ≡ false → newRules (r .kind) ≡ 1 → checkOf (ruleFault p q) ≡ checkOf (bodyFault p r)
   unfolding bodyFault ruleFault firstFault
   rule-next q e a b d = simp (e, a, b, eq-eqb (newRules (r .kind)) 1 d)
 
-  pub fine-event : stepRow r ≡ false → attributesRow r ≡ false → (newRules (r .kind) ≡ 1 → ⊥) → Fine size ≡ checkOf (bodyFault p r) size
+  pub fine-event : stepRow r ≡ false → attributesRow r ≡ false → (newRules (r .kind) ≡ 1 → ⊥) → Fine ≡ checkOf (bodyFault p r)
   unfolding bodyFault firstFault
   fine-event a b d = simp (a, b, ne-eqb (newRules (r .kind)) 1 d)
 
-module _ (p : Plan) (len at : ℕ) (r : Record) (size : ℕ) where
-  pub no-record : len ≤ at → Bad Cut ≡ checkOf (faultOf p len at r) size
+module _ (p : Plan) (len at : ℕ) (r : Record) where
+  pub no-record : len ≤ at → Bad Cut ≡ checkOf (faultOf p len at r)
   unfolding recordFault firstFault
   no-record a = simp (le-leb len at a)
 
-  pub bad-kind : at < len → kindRow r ≡ true → Bad BadKind ≡ checkOf (faultOf p len at r) size
+  pub bad-kind : at < len → kindRow r ≡ true → Bad BadKind ≡ checkOf (faultOf p len at r)
   unfolding recordFault firstFault
   bad-kind a b = simp (lt-leb len at a, b)
 
-  pub cut-record : at < len → kindRow r ≡ false → len - at < 1 + bodyLength (r .kind) → Bad Cut ≡ checkOf (faultOf p len at r) size
+  pub cut-record : at < len → kindRow r ≡ false → len - at < 1 + bodyLength (r .kind) → Bad Cut ≡ checkOf (faultOf p len at r)
   unfolding recordFault firstFault
   cut-record a b d = simp (lt-leb len at a, b, lt-ltb len (at + 1 + bodyLength (r .kind)) (omega arith))
 
-  pub full : at < len → kindRow r ≡ false → 1 + bodyLength (r .kind) ≤ len - at → isFull p (r .kind) ≡ true → Bad Full ≡ checkOf (faultOf p len at r) size
+  pub full : at < len → kindRow r ≡ false → 1 + bodyLength (r .kind) ≤ len - at → isFull p (r .kind) ≡ true → Bad Full ≡ checkOf (faultOf p len at r)
   unfolding recordFault firstFault
   full a b d e = simp (lt-leb len at a, b, le-ltb len (at + 1 + bodyLength (r .kind)) (omega arith), e)
 
-  pub body-next : (n : ℕ) → n ≡ size → at < len → kindRow r ≡ false → 1 + bodyLength (r .kind) ≤ len - at → isFull p (r .kind) ≡ false → checkOf (bodyFault p r) n ≡ checkOf (faultOf p len at r) size
+  pub body-next : at < len → kindRow r ≡ false → 1 + bodyLength (r .kind) ≤ len - at → isFull p (r .kind) ≡ false → checkOf (bodyFault p r) ≡ checkOf (faultOf p len at r)
   unfolding recordFault firstFault bodyFault
-  body-next n en a b d e = simp (en, lt-leb len at a, b, le-ltb len (at + 1 + bodyLength (r .kind)) (omega arith), e)
+  body-next a b d e = simp (lt-leb len at a, b, le-ltb len (at + 1 + bodyLength (r .kind)) (omega arith), e)

@@ -6,10 +6,10 @@ use mathlib.Core.Option.{Option, none, some}
 use mathlib.Core.Path.{_≡_}
 use lib.Dec.{eqb, ltb}
 use lib.ListN.{getD}
-use Rattle.scheduler.specs.State.{eventCount, ruleCount, firstState, emptyState}
+use Rattle.scheduler.specs.State.{eventCount, ruleCount, emptyPlan, firstState, emptyState}
 use Rattle.scheduler.specs.Rules.{badStep, badAttributes, named, enforceable}
 use Rattle.scheduler.specs.Faults.{firstFault}
-use Rattle.scheduler.specs.Sheet.{bodyLength, newEvents, newRules, isRule, ruleOf, declare, recordFault}
+use Rattle.scheduler.specs.Sheet.{newEvents, newRules, isRule, ruleOf, declare, recordFault}
 use Rattle.sheet.specs.Types.{Rule, Plan, Fault, BadStep, BadAttributes, BadNames, Unenforceable, Extra, Verdict, Admitted, Faulty, Reading, Record, Check, Fine, Bad, Progress}
 
 -- the bytes at an offset; those past the end are 0
@@ -36,13 +36,13 @@ bodyFault p r =
 abbrev pub faultOf : Plan → ℕ → ℕ → Record → Option Fault
 faultOf p len at r = recordFault p len at (r .kind) (r .x) (r .y) (r .z)
 
--- a check's answer: the first fault, or the record's bytes
-abbrev pub checkOf : Option Fault → ℕ → Check
-checkOf none size = Fine size
-checkOf (some f) size = Bad f
+-- a check's answer: the first fault, or none
+abbrev pub checkOf : Option Fault → Check
+checkOf none = Fine
+checkOf (some f) = Bad f
 
 abbrev pub verdictOf : Check → ℕ → Verdict
-verdictOf (Fine size) at = Admitted
+verdictOf Fine at = Admitted
 verdictOf (Bad f) at = Faulty f at
 
 -- the plan has a place for what a record of kind k declares
@@ -56,15 +56,18 @@ abbrev pub endVerdict : ℕ → ℕ → Verdict
 endVerdict len at = elim (ltb (at + 1) len) [ true ↦ Faulty Extra (at + 1) | false ↦ Admitted ]
 
 abbrev pub stopped : Progress → Verdict → Progress
-stopped p v = record { plan = p .plan; at = p .at; going = false; verdict = v }
+stopped p v = record { plan = p .plan; going = false; verdict = v }
 
--- the reading after the record at its offset
-unfoldable pub takeRecord : Progress → ℕ → Record → Progress
-takeRecord p len r = elim (faultOf (p .plan) len (p .at) r) [
-  | some f ↦ stopped p (Faulty f (p .at))
+abbrev pub started : Progress
+started = record { plan = emptyPlan; going = true; verdict = Admitted }
+
+-- the reading after the record at an offset of a sheet of some length
+unfoldable pub takeRecord : Progress → ℕ → ℕ → Record → Progress
+takeRecord p len at r = elim (faultOf (p .plan) len at r) [
+  | some f ↦ stopped p (Faulty f at)
   | none ↦ elim (eqb (r .kind) 5) [
-    | true ↦ stopped p (endVerdict len (p .at))
-    | false ↦ record { plan = declare (p .plan) (r .kind) (r .x) (r .y) (r .z); at = p .at + 1 + bodyLength (r .kind); going = true; verdict = Admitted }
+    | true ↦ stopped p (endVerdict len at)
+    | false ↦ record { plan = declare (p .plan) (r .kind) (r .x) (r .y) (r .z); going = true; verdict = Admitted }
   ]
 ]
 

@@ -12,3 +12,4 @@ pub use Rattle.sheet.specs.declared.bytes.Record.{Record}
 pub use Rattle.sheet.specs.declared.fault.Check.{Check}
 pub use Rattle.sheet.specs.declared.fault.Check.the-variants.{Fine, Bad}
 pub use Rattle.sheet.specs.declared.read.Progress.{Progress}
+pub use Rattle.sheet.specs.declared.reader.Reader.{Reader}

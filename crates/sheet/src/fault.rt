@@ -12,13 +12,11 @@ use scheduler::rule::are_named;
 use scheduler::rule::is_enforceable;
 use scheduler::state::Plan;
 ghost use mathlib.Core.Path.{_≡_};
-ghost use Prim.Native.Nat.{_+_};
-ghost use Rattle.scheduler.specs.Sheet.{bodyLength};
 ghost use Rattle.sheet.specs.Progress.{isFull, checkOf, ruleFault, bodyFault, faultOf};
 
-// What a record's check says: fine, with the bytes that the record takes, or its first fault.
+// What a record's check says: fine, or its first fault.
 pub(crate) enum Check {
-    Fine(usize),
+    Fine,
     Bad(Fault),
 }
 
@@ -32,8 +30,8 @@ fn is_full(plan: Plan, kind: u8) -> bool
 }
 
 // Rows 6 and 7: the rule's names, and whether it can be enforced.
-fn check_rule(plan: Plan, rule: Rule, size: usize) -> Check
-    ensures { λ r. ⌜ r ≡ checkOf (ruleFault plan rule) size ⌝ }
+fn check_rule(plan: Plan, rule: Rule) -> Check
+    ensures { λ r. ⌜ r ≡ checkOf (ruleFault plan rule) ⌝ }
 {
     if !are_named(plan.event_count, rule) {
         return Check::Bad(Fault::BadNames);
@@ -42,12 +40,12 @@ fn check_rule(plan: Plan, rule: Rule, size: usize) -> Check
     if !is_enforceable(events, rule) {
         return Check::Bad(Fault::Unenforceable);
     }
-    Check::Fine(size)
+    Check::Fine
 }
 
 // The rows from 4 on, which look at the body.
-fn check_body(plan: Plan, rec: Record, size: usize) -> Check
-    ensures { λ r. ⌜ r ≡ checkOf (bodyFault plan rec) size ⌝ }
+fn check_body(plan: Plan, rec: Record) -> Check
+    ensures { λ r. ⌜ r ≡ checkOf (bodyFault plan rec) ⌝ }
 {
     let kind = rec.kind;
     if ((kind == EVENT) | (kind == FOUR_EVENTS)) & (7 < rec.x) {
@@ -57,14 +55,14 @@ fn check_body(plan: Plan, rec: Record, size: usize) -> Check
         return Check::Bad(Fault::BadAttributes);
     }
     if new_rules(kind) == 1 {
-        return check_rule(plan, rule_of(rec), size);
+        return check_rule(plan, rule_of(rec));
     }
-    Check::Fine(size)
+    Check::Fine
 }
 
 // The table's rows for the record at an offset of a sheet of some length.
 pub(crate) fn check_record(plan: Plan, len: usize, at: usize, rec: Record) -> Check
-    ensures { λ r. ⌜ r ≡ checkOf (faultOf plan len at rec) (1 + bodyLength (rec .kind)) ⌝ }
+    ensures { λ r. ⌜ r ≡ checkOf (faultOf plan len at rec) ⌝ }
 {
     let kind = rec.kind;
     if len <= at {
@@ -80,5 +78,5 @@ pub(crate) fn check_record(plan: Plan, len: usize, at: usize, rec: Record) -> Ch
     if is_full(plan, kind) {
         return Check::Bad(Fault::Full);
     }
-    check_body(plan, rec, size)
+    check_body(plan, rec)
 }

@@ -4,3 +4,4 @@ mod declare;
 mod fault;
 mod kind;
 pub mod read;
+mod reader;

@@ -1,23 +1,24 @@
 use super::bytes::Record;
-use super::bytes::record_at;
 use super::declare::declare;
 use super::declare::empty_plan;
 use super::declare::first_state;
 use super::fault::Check;
 use super::fault::check_record;
 use super::kind::END;
+use super::reader::moved_past;
+use super::reader::new_reader;
+use super::reader::next_record;
 use scheduler::answer::Fault;
 use scheduler::answer::Reading;
 use scheduler::answer::Verdict;
 use scheduler::state::Plan;
 ghost use mathlib.Core.Path.{_≡_};
 ghost use Rattle.scheduler.specs.Sheet.{readSheet};
-ghost use Rattle.sheet.specs.Progress.{verdictOf, stopped, takeRecord, readingOf};
+ghost use Rattle.sheet.specs.Progress.{verdictOf, started, stopped, takeRecord, readingOf};
 
-// How far a reading has come: the plan so far and the offset of the next record, or what the sheet comes to.
+// What a reading has come to: the plan so far, or what the sheet comes to.
 pub(crate) struct Progress {
     pub plan: Plan,
-    pub at: usize,
     pub going: bool,
     pub verdict: Verdict,
 }
@@ -27,8 +28,19 @@ fn verdict_of(check: Check, at: usize) -> Verdict
     ensures { λ r. ⌜ r ≡ verdictOf check at ⌝ }
 {
     match check {
-        Check::Fine(_) => Verdict::Admitted,
+        Check::Fine => Verdict::Admitted,
         Check::Bad(fault) => Verdict::Refused(fault, at),
+    }
+}
+
+// The reading before the first record.
+fn started() -> Progress
+    ensures { λ r. ⌜ r ≡ started ⌝ }
+{
+    Progress {
+        plan: empty_plan(),
+        going: true,
+        verdict: Verdict::Admitted,
     }
 }
 
@@ -39,21 +51,19 @@ fn stopped(progress: Progress, verdict: Verdict) -> Progress
     let plan = progress.plan;
     Progress {
         plan,
-        at: progress.at,
         going: false,
         verdict,
     }
 }
 
-// The reading after the record at its offset.
-fn take_record(progress: Progress, len: usize, rec: Record) -> Progress
-    ensures { λ r. ⌜ r ≡ takeRecord progress len rec ⌝ }
+// The reading after the record at an offset of a sheet of some length.
+fn take_record(progress: Progress, len: usize, at: usize, rec: Record) -> Progress
+    ensures { λ r. ⌜ r ≡ takeRecord progress len at rec ⌝ }
 {
     let plan = progress.plan;
-    let at = progress.at;
     let kind = rec.kind;
     let check = check_record(plan, len, at, rec);
-    let Check::Fine(size) = check else {
+    let Check::Fine = check else {
         return stopped(progress, verdict_of(check, at));
     };
     if kind == END {
@@ -64,20 +74,20 @@ fn take_record(progress: Progress, len: usize, rec: Record) -> Progress
     }
     Progress {
         plan: declare(plan, rec),
-        at: at + size,
         going: true,
         verdict: Verdict::Admitted,
     }
 }
 
 // An admitted sheet gives its first state, a sheet turned down the empty state.
-fn reading_of(verdict: Verdict, plan: Plan) -> Reading
-    ensures { λ r. ⌜ r ≡ readingOf verdict plan ⌝ }
+fn reading_of(progress: Progress) -> Reading
+    ensures { λ r. ⌜ r ≡ readingOf (progress .verdict) (progress .plan) ⌝ }
 {
+    let verdict = progress.verdict;
     match verdict {
         Verdict::Admitted => Reading {
             verdict,
-            state: first_state(plan),
+            state: first_state(progress.plan),
         },
         Verdict::Refused(_, _) => Reading {
             verdict,
@@ -90,16 +100,12 @@ fn reading_of(verdict: Verdict, plan: Plan) -> Reading
 pub fn read_sheet(sheet: &[u8]) -> Reading
     ensures { λ r. ⌜ r ≡ readSheet (now (sheet .entry)) ⌝ }
 {
-    let mut progress = Progress {
-        plan: empty_plan(),
-        at: 0,
-        going: true,
-        verdict: Verdict::Admitted,
-    };
+    let mut reader = new_reader(sheet);
+    let mut progress = started();
     while progress.going {
-        let rec = record_at(sheet, progress.at);
-        progress = take_record(progress, sheet.len(), rec);
+        let rec = next_record(reader);
+        progress = take_record(progress, sheet.len(), reader.at, rec);
+        reader = moved_past(reader, rec);
     }
-    let verdict = progress.verdict;
-    reading_of(verdict, progress.plan)
+    reading_of(progress)
 }

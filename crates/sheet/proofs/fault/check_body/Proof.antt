@@ -5,13 +5,13 @@ use Rattle.sheet.proofs.fault.check_body.Statement.{statement}
 use Rattle.sheet.proofs.fault.check_body.Tie as tie
 
 returns : tie.Need-returns
-returns c = bad-step _ _ _ (c .if1 .taken)
+returns c = bad-step _ _ (c .if1 .taken)
 
 are-bad-requires : tie.Need-are-bad-requires
 are-bad-requires c κs = search needs
 
 returns-2 : tie.Need-returns-2
-returns-2 c = bad-attributes _ _ _ (c .before .before .if1 .left) (attributes-row (c .before .before .before .before .args .rec) _ (c .before .are-bad .ensures) ∙ c .if2 .taken)
+returns-2 c = bad-attributes _ _ (c .before .before .if1 .left) (attributes-row (c .before .before .before .before .args .rec) _ (c .before .are-bad .ensures) ∙ c .if2 .taken)
 
 new-rules-requires : tie.Need-new-rules-requires
 new-rules-requires c κs = search needs
@@ -23,10 +23,10 @@ check-rule-requires : tie.Need-check-rule-requires
 check-rule-requires c κs = search needs
 
 returns-3 : tie.Need-returns-3
-returns-3 c = c .check-rule .ensures ∙ rule-next _ _ _ _ (c .before .rule-of .ensures) (c .before .before .before .before .before .before .if1 .left) (attributes-row (c .before .before .before .before .before .before .before .before .args .rec) _ (c .before .before .before .before .before .are-bad .ensures) ∙ c .before .before .before .before .if2 .left) (sym (c .before .before .before .new-rules .ensures) ∙ c .before .before .if3 .taken)
+returns-3 c = c .check-rule .ensures ∙ rule-next _ _ _ (c .before .rule-of .ensures) (c .before .before .before .before .before .before .if1 .left) (attributes-row (c .before .before .before .before .before .before .before .before .args .rec) _ (c .before .before .before .before .before .are-bad .ensures) ∙ c .before .before .before .before .if2 .left) (sym (c .before .before .before .new-rules .ensures) ∙ c .before .before .if3 .taken)
 
 returns-4 : tie.Need-returns-4
-returns-4 c = fine-event _ _ _ (c .before .before .before .before .if1 .left) (attributes-row (c .before .before .before .before .before .before .args .rec) _ (c .before .before .before .are-bad .ensures) ∙ c .before .before .if2 .left) (λ e. c .if3 .left (c .before .new-rules .ensures ∙ e))
+returns-4 c = fine-event _ _ (c .before .before .before .before .if1 .left) (attributes-row (c .before .before .before .before .before .before .args .rec) _ (c .before .before .before .are-bad .ensures) ∙ c .before .before .if2 .left) (λ e. c .if3 .left (c .before .new-rules .ensures ∙ e))
 
 pub check-body-spec : {M : Type 1} → statement M
 check-body-spec =
