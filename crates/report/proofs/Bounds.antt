@@ -26,7 +26,8 @@ use Rattle.scheduler.specs.declared.event.Fate.the-variants.{Open, Held, Done, 
 use Rattle.scheduler.specs.declared.state.Entry.{Entry}
 use Rattle.scheduler.specs.State.{eventCount, ruleCount, lineCount, lines, blankEntry, fateOf, brokenAt, isHeld}
 use Rattle.scheduler.specs.Faults.{faultNumber}
-use Rattle.scheduler.specs.Runner.{decimal, line, historyLines, heldCount, brokenCount, report}
+use Rattle.scheduler.specs.Readers.{heldCount, brokenCount}
+use Rattle.scheduler.specs.Runner.{decimal, line, historyLines, report}
 use Rattle.report.specs.Written.{fateEnd, entryLine, head, tail, stateText, faultLine}
 use Rattle.report.proofs.Pages.{length-one, length-more}
 use Rattle.report.proofs.Splits.{eventsLead, rulesLead, heldLead, brokenLead, callsLead, refusedLead, atLead, entry-split, head-split, tail-split, state-split, fault-is, lines-append, report-admitted, report-faulty}

@@ -16,7 +16,8 @@ use Rattle.scheduler.specs.declared.state.Entry.{Entry}
 use Rattle.scheduler.specs.declared.state.State.{State}
 use Rattle.scheduler.specs.State.{eventCount, ruleCount, lines, blankEntry}
 use Rattle.scheduler.specs.Faults.{faultNumber}
-use Rattle.scheduler.specs.Runner.{decimal, fateWord, eventsWord, rulesWord, brokenWord, callsWord, atWord, _␣_, line, historyLines, heldCount, brokenCount, report}
+use Rattle.scheduler.specs.Readers.{heldCount, brokenCount}
+use Rattle.scheduler.specs.Runner.{decimal, fateWord, eventsWord, rulesWord, brokenWord, callsWord, atWord, _␣_, line, historyLines, report}
 use Rattle.report.specs.Written.{Put, fateEnd, entryLine, head, tail, stateText, faultLine}
 use Rattle.report.proofs.Pages.{put-then, put-as}
 

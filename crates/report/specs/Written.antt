@@ -11,7 +11,8 @@ use Rattle.scheduler.specs.declared.state.Entry.{Entry}
 use Rattle.scheduler.specs.declared.state.State.{State}
 use Rattle.scheduler.specs.State.{eventCount, ruleCount, lines}
 use Rattle.scheduler.specs.Faults.{faultNumber}
-use Rattle.scheduler.specs.Runner.{decimal, fateWord, eventsWord, rulesWord, brokenWord, callsWord, atWord, _␣_, line, historyLines, heldCount, brokenCount}
+use Rattle.scheduler.specs.Readers.{heldCount, brokenCount}
+use Rattle.scheduler.specs.Runner.{decimal, fateWord, eventsWord, rulesWord, brokenWord, callsWord, atWord, _␣_, line, historyLines}
 
 -- the page with the text's bytes stored one after another
 unfoldable pub written : List ℕ → ℕ → List ℕ → List ℕ

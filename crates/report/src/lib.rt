@@ -1,5 +1,4 @@
 // An outcome's report, written into a buffer that the caller lends.
-mod count;
 mod page;
 mod text;
 

@@ -1,7 +1,5 @@
 // The lines of a report.
 use super::MOST;
-use super::count::count_broken;
-use super::count::count_held;
 use super::page::put_count;
 use super::page::put_decimal;
 use super::page::put_line;
@@ -92,14 +90,12 @@ fn put_state(page: &mut [u8; MOST], state: State, refused: usize) -> usize
 {
     let plan = state.plan;
     let history = state.history;
-    let standings = state.standings;
-    let broken = state.broken;
     let events = plan.event_count;
     let rules = plan.rule_count;
     let next = put_head(page, 0, events, rules);
     let then = put_history(page, next, history, state.history_len);
-    let held = count_held(standings, events);
-    let marked = count_broken(broken, rules);
+    let held = state.held_count();
+    let marked = state.broken_count();
     put_tail(page, then, held, marked, refused)
 }
 

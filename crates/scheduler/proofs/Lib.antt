@@ -8,6 +8,7 @@ pub mod Searching
 pub mod Settling
 pub mod Grounds
 pub mod Budgets
+pub mod Counting
 pub mod Turning
 pub mod Calling
 pub mod Cases

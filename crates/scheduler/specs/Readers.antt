@@ -1,8 +1,15 @@
 -- What a reader of the state answers. An event, a rule or a line is declared if its number is below its count and below 16, a step if it is at most 7;
 -- an undeclared number has an answer of its own, which is not "open".
 use Rattle.scheduler.specs.Prelude.{ℕ, Bool, _&&_, cond, ltb, State, FateRead, EventRead, RuleRead, EntryRead, Mark}
-use Rattle.scheduler.specs.Base.{readAt}
-use Rattle.scheduler.specs.State.{eventCount, ruleCount, lineCount, blankEntry, fateOf, eventAt, ruleAt, closedAt, brokenAt}
+use Rattle.scheduler.specs.Base.{countBelow, readAt}
+use Rattle.scheduler.specs.State.{eventCount, ruleCount, lineCount, blankEntry, fateOf, eventAt, ruleAt, closedAt, brokenAt, isHeld}
+
+-- "the events still held, the rules recorded broken", as counts
+abbrev pub heldCount : State → ℕ
+heldCount s = countBelow (eventCount (s .plan)) (λ e. isHeld (fateOf s e))
+
+abbrev pub brokenCount : State → ℕ
+brokenCount s = countBelow (ruleCount (s .plan)) (λ i. brokenAt s i)
 
 -- the number i is below its count and below 16
 abbrev pub declaredBelow : ℕ → ℕ → Bool

@@ -1,7 +1,8 @@
 -- The call file, the run of a list, and the report.
 use Rattle.scheduler.specs.Prelude.{ℕ, zero, suc, _+_, _/_, _%_, Bool, true, false, List, [], _∷_, _++_, eqb, ltb, Fate, Open, Held, Done, Refused, Lapsed, Entry, State, Admitted, Faulty, Reading, Outcome}
-use Rattle.scheduler.specs.Base.{oneIf, countBelow}
-use Rattle.scheduler.specs.State.{eventCount, ruleCount, fateOf, brokenAt, lines, isHeld}
+use Rattle.scheduler.specs.Base.{oneIf}
+use Rattle.scheduler.specs.State.{eventCount, ruleCount, lines}
+use Rattle.scheduler.specs.Readers.{heldCount, brokenCount}
 use Rattle.scheduler.specs.Faults.{Call, submitting, closing, finishing, faultNumber, isTurnedDown, call}
 use Rattle.scheduler.specs.Sheet.{readSheet}
 
@@ -95,12 +96,6 @@ line a = a ++ (10 ∷ [])
 unfoldable pub historyLines : List Entry → List ℕ
 historyLines [] = []
 historyLines (l ∷ ls) = line (decimal (l .event) ␣ fateWord (l .fate)) ++ historyLines ls
-
-abbrev pub heldCount : State → ℕ
-heldCount s = countBelow (eventCount (s .plan)) (λ e. isHeld (fateOf s e))
-
-abbrev pub brokenCount : State → ℕ
-brokenCount s = countBelow (ruleCount (s .plan)) (λ i. brokenAt s i)
 
 -- "Line 1 counts declarations; then one line for each history entry ..; then, as counts, the events still held, the rules recorded broken and the calls turned down."
 -- "For a sheet turned down it prints one line, such as `refused 7 at 6`."

@@ -29,7 +29,7 @@ pub(crate) fn is_open(x: Fate) -> bool
     }
 }
 
-pub fn is_held(x: Fate) -> bool
+pub(crate) fn is_held(x: Fate) -> bool
     ensures { λ r. ⌜ r ≡ isHeld x ⌝ }
 {
     match x {

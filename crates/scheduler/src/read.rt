@@ -1,12 +1,15 @@
 // Reading a state. An undeclared number answers so, and never "open".
 use super::event::Event;
 use super::event::Fate;
+use super::event::is_held;
 use super::rule::Rule;
 use super::state::Entry;
 use super::state::State;
+use super::state::fate_in;
+use super::state::flag_in;
 ghost use mathlib.Core.Path.{_≡_};
 ghost use Rattle.scheduler.specs.State.{eventCount, ruleCount, lineCount};
-ghost use Rattle.scheduler.specs.Readers.{fateRead, eventRead, ruleRead, lineRead, closedRead, brokenRead, markOf};
+ghost use Rattle.scheduler.specs.Readers.{heldCount, brokenCount, fateRead, eventRead, ruleRead, lineRead, closedRead, brokenRead, markOf};
 
 pub enum FateRead {
     Is(Fate),
@@ -61,6 +64,38 @@ impl State {
         ensures { λ r. ⌜ r ≡ lineCount self ⌝ }
     {
         self.history_len
+    }
+
+    // The number of events that are held.
+    pub fn held_count(self) -> usize
+        ensures { λ r. ⌜ r ≡ heldCount self ⌝ }
+    {
+        let plan = self.plan;
+        let standings = self.standings;
+        let n = plan.event_count;
+        let mut count: usize = 0;
+        let mut i: u8 = 0;
+        while i < n {
+            count += is_held(fate_in(standings, i)) as usize;
+            i += 1;
+        }
+        count
+    }
+
+    // The number of rules that are recorded as broken.
+    pub fn broken_count(self) -> usize
+        ensures { λ r. ⌜ r ≡ brokenCount self ⌝ }
+    {
+        let plan = self.plan;
+        let broken = self.broken;
+        let n = plan.rule_count;
+        let mut count: usize = 0;
+        let mut i: u8 = 0;
+        while i < n {
+            count += flag_in(broken, i) as usize;
+            i += 1;
+        }
+        count
     }
 
     pub fn read_fate(self, event: u8) -> FateRead

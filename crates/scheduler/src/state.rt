@@ -41,7 +41,7 @@ pub struct State {
 }
 
 // The fate in a place; past the places, the blank's.
-pub fn fate_in(standings: [Standing; 16], event: u8) -> Fate
+pub(crate) fn fate_in(standings: [Standing; 16], event: u8) -> Fate
     ensures { λ r. ⌜ r ≡ readAt 16 standings event blankStanding .fate ⌝ }
 {
     if event < 16 {
@@ -94,7 +94,7 @@ pub(crate) fn rule_in(rules: [RuleLine; 16], i: u8) -> Rule
 }
 
 // The flag in a place; past the places, not set.
-pub fn flag_in(flags: [bool; 16], i: u8) -> bool
+pub(crate) fn flag_in(flags: [bool; 16], i: u8) -> bool
     ensures { λ r. ⌜ r ≡ readAt 16 flags i false ⌝ }
 {
     if i < 16 { flags[i as usize] } else { false }

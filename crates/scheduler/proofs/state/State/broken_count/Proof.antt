@@ -1,12 +1,12 @@
--- `count_broken` meets its contract.
+-- `State::broken_count` meets its contract.
 use Prim.Native.Nat.{_-_}
 use native.Mathlib.Omega.{arith}
 use borrow.Author.Needs.{needs}
 use mathlib.Core.Bool.{false}
 use Rattle.scheduler.specs.Base.{readAt}
-use Rattle.report.proofs.Counting.{Counted, count-none, count-next, count-small, count-all}
-use Rattle.report.proofs.count.count_broken.Statement.{statement}
-use Rattle.report.proofs.count.count_broken.Tie as tie
+use Rattle.scheduler.proofs.Counting.{Counted, count-none, count-next, count-small, count-all}
+use Rattle.scheduler.proofs.state.State.broken_count.Statement.{statement}
+use Rattle.scheduler.proofs.state.State.broken_count.Tie as tie
 
 abbrev Inv-loop : tie.InvT-loop
 Inv-loop broken n count₀ i₀ count i = Counted (λ e. readAt 16 broken e false) n count i
@@ -38,8 +38,8 @@ loop-again c = count-next _ _ (c .before .before .loop .count) (c .before .befor
 returns : tie.Need-returns Inv-loop μ-loop
 returns c = count-all _ _ _ (c .before .loop .i) (c .before .loop .inv) (c .loop-test .left)
 
-pub count-broken-spec : {M : Type 1} → statement M
-count-broken-spec =
+pub broken-count-spec : {M : Type 1} → statement M
+broken-count-spec =
     tie.close
     (tie.spec
     Inv-loop

@@ -1,13 +1,13 @@
--- `count_held` meets its contract.
+-- `State::held_count` meets its contract.
 use Prim.Native.Nat.{_-_}
 use native.Mathlib.Omega.{arith}
 use mathlib.Core.Path.{_∙_, ap}
 use borrow.Author.Needs.{needs}
 use Rattle.scheduler.specs.Base.{readAt}
 use Rattle.scheduler.specs.State.{blankStanding, isHeld}
-use Rattle.report.proofs.Counting.{Counted, count-none, count-next, count-small, count-all}
-use Rattle.report.proofs.count.count_held.Statement.{statement}
-use Rattle.report.proofs.count.count_held.Tie as tie
+use Rattle.scheduler.proofs.Counting.{Counted, count-none, count-next, count-small, count-all}
+use Rattle.scheduler.proofs.state.State.held_count.Statement.{statement}
+use Rattle.scheduler.proofs.state.State.held_count.Tie as tie
 
 abbrev Inv-loop : tie.InvT-loop
 Inv-loop standings n count₀ i₀ count i = Counted (λ e. isHeld (readAt 16 standings e blankStanding .fate)) n count i
@@ -42,8 +42,8 @@ loop-again c = count-next _ _ (c .before .before .before .loop .count) (c .befor
 returns : tie.Need-returns Inv-loop μ-loop
 returns c = count-all _ _ _ (c .before .loop .i) (c .before .loop .inv) (c .loop-test .left)
 
-pub count-held-spec : {M : Type 1} → statement M
-count-held-spec =
+pub held-count-spec : {M : Type 1} → statement M
+held-count-spec =
     tie.close
     (tie.spec
     Inv-loop
