@@ -6,11 +6,11 @@ use super::Random;
 
 /// The proved library tries every order of the events that are held, or open
 /// and forcible. So the number of events that are delayable or forcible is
-/// limited: usually to the first number, for a few per cent of the sheets to
-/// the second.
+/// limited: usually to the first number, for a part of the sheets to the
+/// second.
 pub const USUAL_ACTIVE: usize = 7;
-pub const RARE_ACTIVE: usize = 9;
-pub const RARE_PERCENT: u64 = 3;
+pub const RARE_ACTIVE: usize = 16;
+pub const RARE_PERCENT: u64 = 20;
 
 const DAMAGED_PERCENT: u64 = 25;
 const CHAIN_PERCENT: u64 = 22;
