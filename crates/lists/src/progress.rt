@@ -2,7 +2,7 @@ use scheduler::answer::Answer;
 use scheduler::answer::Reply;
 use scheduler::state::State;
 ghost use mathlib.Core.Path.{_≡_};
-ghost use Prim.Native.Nat.{_<_};
+ghost use Prim.Native.Nat.{_+_, _<_, _^_};
 ghost use Rattle.scheduler.specs.Faults.{isTurnedDown};
 ghost use Rattle.lists.specs.Progress.{isCut, afterReply, takeKind, takeByte};
 
@@ -52,7 +52,7 @@ pub(crate) fn is_cut(expected: Expected) -> bool
 
 // The list after a call's reply.
 fn after_reply(refused: usize, reply: Reply) -> Progress
-    requires { ⌜ refused < 18446744073709551615 ⌝ }
+    requires { ⌜ refused + 1 < 2 ^ 64 ⌝ }
     ensures { λ r. ⌜ r ≡ afterReply refused reply ⌝ }
 {
     let answer = reply.answer;
@@ -74,7 +74,7 @@ fn after_reply(refused: usize, reply: Reply) -> Progress
 
 // The list after a record's kind: another kind ends the reading and counts as one call turned down.
 fn take_kind(state: State, refused: usize, kind: u8) -> Progress
-    requires { ⌜ refused < 18446744073709551615 ⌝ }
+    requires { ⌜ refused + 1 < 2 ^ 64 ⌝ }
     ensures { λ r. ⌜ r ≡ takeKind state refused kind ⌝ }
 {
     if kind == SUBMIT {
@@ -103,7 +103,7 @@ fn take_kind(state: State, refused: usize, kind: u8) -> Progress
 
 // The list after one more byte: a call is made where its record is complete.
 pub(crate) fn take_byte(progress: Progress, byte: u8) -> Progress
-    requires { ⌜ progress .refused < 18446744073709551615 ⌝ }
+    requires { ⌜ progress .refused + 1 < 2 ^ 64 ⌝ }
     ensures { λ r. ⌜ r ≡ takeByte progress byte ⌝ }
 {
     let state = progress.state;

@@ -7,13 +7,13 @@ use super::page::put_word;
 use scheduler::answer::Fault;
 use scheduler::answer::Outcome;
 use scheduler::answer::Verdict;
+use scheduler::answer::fault_number;
 use scheduler::event::Fate;
 use scheduler::state::Entry;
 use scheduler::state::State;
 ghost use mathlib.Core.Path.{_≡_};
 ghost use Prim.Native.Nat.{_+_, _≤_, min};
 ghost use lib.ListN.{length, take};
-ghost use Rattle.scheduler.specs.Faults.{faultNumber};
 ghost use Rattle.scheduler.specs.Runner.{historyLines, report};
 ghost use Rattle.report.specs.Written.{Put, fateEnd, entryLine, head, tail, stateText, faultLine};
 
@@ -100,25 +100,6 @@ fn put_state(page: &mut [u8; MOST], state: State, refused: usize) -> usize
 }
 
 // The number that the table gives.
-fn fault_number(fault: Fault) -> usize
-    ensures { λ r. ⌜ r ≡ faultNumber fault ⌝ }
-{
-    match fault {
-        Fault::Cut => 1,
-        Fault::BadKind => 2,
-        Fault::Full => 3,
-        Fault::BadStep => 4,
-        Fault::BadAttributes => 5,
-        Fault::BadNames => 6,
-        Fault::Unenforceable => 7,
-        Fault::Extra => 8,
-        Fault::Unknown => 9,
-        Fault::AlreadyClosed => 10,
-        Fault::NotClosed => 11,
-        Fault::Incoherent => 12,
-    }
-}
-
 // The report of a sheet turned down.
 fn put_fault(page: &mut [u8; MOST], fault: Fault, offset: usize) -> usize
     requires { ⌜ length (faultLine fault offset) ≤ 320 ⌝ }

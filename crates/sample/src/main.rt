@@ -1,30 +1,13 @@
 // Runs the reader, the search and single calls on small sheets and prints what comes of each: the gate compares it with the file `stdout`.
 use libc::STDOUT_FILENO;
 use scheduler::answer::Answer;
-use scheduler::answer::Fault;
 use scheduler::answer::Reply;
 use scheduler::answer::Verdict;
+use scheduler::answer::fault_number;
 use scheduler::event::Fate;
 use scheduler::order::Found;
 use scheduler::state::Standing;
 use scheduler::state::State;
-
-fn number_of(fault: Fault) -> u64 {
-    match fault {
-        Fault::Cut => 1,
-        Fault::BadKind => 2,
-        Fault::Full => 3,
-        Fault::BadStep => 4,
-        Fault::BadAttributes => 5,
-        Fault::BadNames => 6,
-        Fault::Unenforceable => 7,
-        Fault::Extra => 8,
-        Fault::Unknown => 9,
-        Fault::AlreadyClosed => 10,
-        Fault::NotClosed => 11,
-        Fault::Incoherent => 12,
-    }
-}
 
 // What a sheet comes to.
 fn show_reading(name: &[u8], sheet: &[u8]) {
@@ -37,7 +20,7 @@ fn show_reading(name: &[u8], sheet: &[u8]) {
         }
         Verdict::Refused(fault, at) => {
             io::write_all(STDOUT_FILENO, b" refused ");
-            io::print_decimal(STDOUT_FILENO, number_of(fault));
+            io::print_decimal(STDOUT_FILENO, fault_number(fault) as u64);
             io::write_all(STDOUT_FILENO, b" at ");
             io::print_decimal(STDOUT_FILENO, at as u64);
             io::write_all(STDOUT_FILENO, b"\n");
@@ -113,7 +96,7 @@ fn show_answer(answer: Answer) {
         }
         Answer::TurnedDown(fault) => {
             io::write_all(STDOUT_FILENO, b" turned down by ");
-            io::print_decimal(STDOUT_FILENO, number_of(fault));
+            io::print_decimal(STDOUT_FILENO, fault_number(fault) as u64);
             io::write_all(STDOUT_FILENO, b"\n");
         }
     }
@@ -137,7 +120,7 @@ fn show_calls(sheet: &[u8]) {
     state = after_call(b"hand in 2:", state.submit(2));
     state = after_call(b"close step 0:", state.close_step(0));
     state = after_call(b"close step 0:", state.close_step(0));
-    state = after_call(b"wind up:", state.finish());
+    after_call(b"wind up:", state.finish());
     let mut torn = first;
     torn.history_len = 1;
     after_call(b"hand in 0, a line too many:", torn.submit(0));

@@ -1,5 +1,7 @@
 use super::event::Fate;
 use super::state::State;
+ghost use mathlib.Core.Path.{_≡_};
+ghost use Rattle.scheduler.specs.Faults.{faultNumber};
 
 // Why a sheet or a call is turned down, in the order of their numbers 1 to 12.
 pub enum Fault {
@@ -15,6 +17,26 @@ pub enum Fault {
     AlreadyClosed,
     NotClosed,
     Incoherent,
+}
+
+// The number that document 01's table gives.
+pub fn fault_number(fault: Fault) -> usize
+    ensures { λ r. ⌜ r ≡ faultNumber fault ⌝ }
+{
+    match fault {
+        Fault::Cut => 1,
+        Fault::BadKind => 2,
+        Fault::Full => 3,
+        Fault::BadStep => 4,
+        Fault::BadAttributes => 5,
+        Fault::BadNames => 6,
+        Fault::Unenforceable => 7,
+        Fault::Extra => 8,
+        Fault::Unknown => 9,
+        Fault::AlreadyClosed => 10,
+        Fault::NotClosed => 11,
+        Fault::Incoherent => 12,
+    }
 }
 
 // What a call answers: a hand-in the event's fate, the others that they were made.
