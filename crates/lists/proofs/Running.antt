@@ -1,209 +1,205 @@
--- Reading byte after byte comes to the run of the list that the bytes decode to.
-use Prim.Native.Nat.{ℕ, _+_, _≤_, _<_}
+-- Taking record after record comes to the run of the list that the bytes decode to.
+use Prim.Native.Nat.{ℕ, suc, _+_, _-_, _≤_, _<_}
 use native.Mathlib.Omega.{arith}
-use native.Mathlib.Numerals.{add-one}
-use mathlib.Core.Bool.{Bool, true, false}
+use mathlib.Core.Bool.{Bool, true, false, cond}
 use mathlib.Core.List.{List, [], _∷_}
-use mathlib.Core.Logic.{inl, inr}
 use mathlib.Core.Path.{_≡_, refl, sym, _∙_, ap}
-use lib.Dec.{eqb}
-use lib.ListN.{length, drop, getD, drop-of-length-le}
-use lib.Seq.{drop-cons}
-use Rattle.scheduler.specs.Base.{oneIf}
-use Rattle.scheduler.specs.Faults.{Call, submitting, closing, finishing, isTurnedDown, call}
-use Rattle.scheduler.specs.Runner.{Decoded, andThen, kind, event, step, decodeFrom, decode, stateAfter, turnedDown}
-use Rattle.scheduler.proofs.Tests.{either}
-use Rattle.lists.specs.Types.{State, Admitted, Reply, Outcome, Expected, Kind, Event, Step, Over, Progress}
-use Rattle.lists.specs.Progress.{isCut, started, afterReply, takeKind, takeByte, takeBytes, outcomeOf}
+use lib.ListN.{length, drop, length-drop}
+use lib.Seq.{drop-drop}
+use Rattle.plan.specs.Base.{oneIf}
+use Rattle.plan.specs.Faults.{isTurnedDown}
+use Rattle.plan.specs.Calls.{callSize, firstCall, Decoded, andThen, decode}
+use Rattle.plan.proofs.Tests.{clash, one-le}
+use Rattle.plan.proofs.CallDecoding.{size-some, listed-inside, bad-inside, decode-first, decode-none, decode-broken}
+use Rattle.scheduler.specs.Answers.{call}
+use Rattle.scheduler.specs.Lists.{scheduler, after, turnedDown}
+use Rattle.scheduler.specs.Runner.{ranOn}
+use Rattle.lists.specs.Types.{Call, CallRead, Listed, End, Bad, State, Admitted, Reply, Outcome, Progress}
+use Rattle.lists.specs.Internal.Progress.{stopped, afterReply, takeCall, Room}
 
--- what the bytes that are left decode to; after another kind, nothing
-abbrev pub leftTo : Expected → List ℕ → Decoded
-leftTo x b = elim x [ Kind ↦ decodeFrom kind b | Event ↦ decodeFrom event b | Step ↦ decodeFrom step b | Over ↦ record { calls = []; cut = false } ]
+-- the branches of `afterReply`
+module _ (r : Reply) (at n : ℕ) where
+  pub reply-refused : isTurnedDown (r .answer) ≡ true → record { state = r .state; at = at; refused = n + 1; going = true } ≡ afterReply r at n
+  reply-refused h = rw h
+
+  pub reply-taken : isTurnedDown (r .answer) ≡ false → record { state = r .state; at = at; refused = n; going = true } ≡ afterReply r at n
+  reply-taken h = rw h (ap (λ (k : ℕ). record { state = r .state; at = at; refused = k; going = true }) (omega arith))
+
+-- the branches of `takeCall`, by what code reads
+module _ (p : Progress) (read : CallRead) (q : Progress) where
+  pub taken-listed : (c : Call) (r : Reply) (size : ℕ)
+      → read ≡ Listed c
+      → r ≡ call (p .state) c
+      → size ≡ callSize c
+      → q ≡ afterReply r (p .at + size) (p .refused)
+      → q ≡ takeCall p read
+  unfolding takeCall
+  taken-listed c r size h made long e = e ∙ rw (h, made, long)
+
+  pub taken-end : read ≡ End → q ≡ stopped p (p .refused) → q ≡ takeCall p read
+  unfolding takeCall
+  taken-end h e = e ∙ rw h
+
+  pub taken-bad : read ≡ Bad → q ≡ stopped p (p .refused + 1) → q ≡ takeCall p read
+  unfolding takeCall
+  taken-bad h e = e ∙ rw h
+
+-- a record is not the end
+pub listed-on : (r : CallRead) (c : Call) → r ≡ Listed c → r ≡ End → ⊥
+listed-on r c h e = let z : _≡_ {A = ℕ} 0 1 = cc in omega arith
+
+pub bad-on : (r : CallRead) → r ≡ Bad → r ≡ End → ⊥
+bad-on r h e = let z : _≡_ {A = ℕ} 0 1 = cc in omega arith
 
 -- the outcome of a list's calls from a state, with n calls turned down before them
 abbrev pub outcomeFrom : State → ℕ → Decoded → Outcome
-outcomeFrom s n d = record { verdict = Admitted; state = stateAfter s (d .calls); refused = n + (turnedDown s (d .calls) + oneIf (d .cut)) }
+outcomeFrom s n d = record {
+  verdict = Admitted;
+  state = after scheduler s (d .calls);
+  refused = n + (turnedDown s (d .calls) + oneIf (d .cut));
+}
 
--- the branches of `takeKind`
-module _ (s : State) (n x : ℕ) where
-  pub kind-event : eqb x 16 ≡ true → takeKind s n x ≡ record { state = s; expected = Event; refused = n }
-  unfolding takeKind
-  kind-event h = rw (h, takeKind)
-
-  pub kind-step : eqb x 16 ≡ false → eqb x 17 ≡ true → takeKind s n x ≡ record { state = s; expected = Step; refused = n }
-  unfolding takeKind
-  kind-step h k = rw (h, k, takeKind)
-
-  pub kind-finish : eqb x 16 ≡ false → eqb x 17 ≡ false → eqb x 18 ≡ true → takeKind s n x ≡ afterReply n (call s finishing)
-  unfolding takeKind
-  kind-finish h k l = rw (h, k, l, takeKind)
-
-  pub kind-other : eqb x 16 ≡ false → eqb x 17 ≡ false → eqb x 18 ≡ false → takeKind s n x ≡ record { state = s; expected = Over; refused = n + 1 }
-  unfolding takeKind
-  kind-other h k l = rw (h, k, l, takeKind)
-
--- after another kind no byte counts
-over-stays : (s : State) (e : Expected) (n x : ℕ) → e ≡ Over → takeByte (record { state = s; expected = e; refused = n }) x ≡ record { state = s; expected = e; refused = n }
-unfolding takeByte
-over-stays s e n x h = ap (λ (v : Expected). takeByte (record { state = s; expected = v; refused = n }) x) h ∙ ap (λ (v : Expected). record { state = s; expected = v; refused = n }) (sym h)
-
--- the branches of `takeByte`
-module _ (p : Progress) (x : ℕ) where
-  pub byte-kind : p .expected ≡ Kind → takeByte p x ≡ takeKind (p .state) (p .refused) x
-  unfolding takeByte
-  byte-kind h = rw (h, takeByte)
-
-  pub byte-event : p .expected ≡ Event → takeByte p x ≡ afterReply (p .refused) (call (p .state) (submitting x))
-  unfolding takeByte
-  byte-event h = rw (h, takeByte)
-
-  pub byte-step : p .expected ≡ Step → takeByte p x ≡ afterReply (p .refused) (call (p .state) (closing x))
-  unfolding takeByte
-  byte-step h = rw (h, takeByte)
-
-  pub byte-over : p .expected ≡ Over → takeByte p x ≡ p
-  byte-over h = over-stays (p .state) (p .expected) (p .refused) x h
-
--- the branches of `afterReply`
-module _ (n : ℕ) (r : Reply) where
-  pub reply-refused : isTurnedDown (r .answer) ≡ true → record { state = r .state; expected = Kind; refused = n + 1 } ≡ afterReply n r
-  reply-refused h = rw h
-
-  pub reply-taken : isTurnedDown (r .answer) ≡ false → record { state = r .state; expected = Kind; refused = n } ≡ afterReply n r
-  reply-taken h = rw h (ap (λ (k : ℕ). record { state = r .state; expected = Kind; refused = k }) (omega arith))
-
--- the branches of `decodeFrom kind`
-module _ (x : ℕ) (b : List ℕ) where
-  decode-event : eqb x 16 ≡ true → decodeFrom kind (x ∷ b) ≡ decodeFrom event b
-  unfolding decodeFrom
-  decode-event h = rw (h, decodeFrom)
-
-  decode-step : eqb x 16 ≡ false → eqb x 17 ≡ true → decodeFrom kind (x ∷ b) ≡ decodeFrom step b
-  unfolding decodeFrom
-  decode-step h k = rw (h, k, decodeFrom)
-
-  decode-finish : eqb x 16 ≡ false → eqb x 17 ≡ false → eqb x 18 ≡ true → decodeFrom kind (x ∷ b) ≡ andThen finishing (decodeFrom kind b)
-  unfolding decodeFrom
-  decode-finish h k l = rw (h, k, l, decodeFrom)
-
-  decode-other : eqb x 16 ≡ false → eqb x 17 ≡ false → eqb x 18 ≡ false → decodeFrom kind (x ∷ b) ≡ record { calls = []; cut = true }
-  unfolding decodeFrom
-  decode-other h k l = rw (h, k, l, decodeFrom)
-
--- one call more in front of a list
-from-call : (s : State) (n : ℕ) (c : Call) (d : Decoded) → outcomeFrom (call s c .state) (n + oneIf (isTurnedDown (call s c .answer))) d ≡ outcomeFrom s n (andThen c d)
-unfolding stateAfter turnedDown
-from-call s n c d =
-    let m : n + oneIf (isTurnedDown (call s c .answer)) + (turnedDown (call s c .state) (d .calls) + oneIf (d .cut)) ≡ n + (oneIf (isTurnedDown (call s c .answer)) + turnedDown (call s c .state) (d .calls) + oneIf (d .cut)) = omega arith in
-    rw m
+-- what a list comes to that stops here
+abbrev pub outcomeOf : Progress → Outcome
+outcomeOf p = record { verdict = Admitted; state = p .state; refused = p .refused }
 
 -- what is left of a run from here
 abbrev pub restOf : Progress → List ℕ → Outcome
-restOf p b = outcomeFrom (p .state) (p .refused) (leftTo (p .expected) b)
+restOf p b = cond (p .going) (outcomeFrom (p .state) (p .refused) (decode (drop (p .at) b))) (outcomeOf p)
 
--- another kind: nothing more is called, and one more is counted
-from-other : (s : State) (n : ℕ) → outcomeFrom s (n + 1) (record { calls = []; cut = false }) ≡ outcomeFrom s n (record { calls = []; cut = true })
-unfolding stateAfter turnedDown
-from-other s n = let m : n + 1 + (0 + 0) ≡ n + (0 + 1) = omega arith in ap (λ (k : ℕ). record { verdict = Admitted; state = s; refused = k }) m
+-- one call more in front of a list
+from-call : (s : State) (n : ℕ) (c : Call) (d : Decoded)
+    → outcomeFrom (call s c .state) (n + oneIf (isTurnedDown (call s c .answer))) d ≡ outcomeFrom s n (andThen c d)
+unfolding after turnedDown
+from-call s n c d =
+    ap
+    {B = Outcome}
+    (λ (k : ℕ). record { verdict = Admitted; state = after scheduler (call s c .state) (d .calls); refused = k })
+    (omega arith)
 
--- a record's kind
-rest-kind : (s : State) (n x : ℕ) (b : List ℕ) → restOf (takeKind s n x) b ≡ outcomeFrom s n (decodeFrom kind (x ∷ b))
-rest-kind s n x b = elim (either (eqb x 16)) [
-  | inl h ↦ ap (λ p. restOf p b) (kind-event s n x h) ∙ ap (outcomeFrom s n) (sym (decode-event x b h))
-  | inr h ↦ elim (either (eqb x 17)) [
-    | inl k ↦ ap (λ p. restOf p b) (kind-step s n x h k) ∙ ap (outcomeFrom s n) (sym (decode-step x b h k))
-    | inr k ↦ elim (either (eqb x 18)) [
-      | inl l ↦ ap (λ p. restOf p b) (kind-finish s n x h k l) ∙ from-call s n finishing (decodeFrom kind b) ∙ ap (outcomeFrom s n) (sym (decode-finish x b h k l))
-      | inr l ↦ ap (λ p. restOf p b) (kind-other s n x h k l) ∙ from-other s n ∙ ap (outcomeFrom s n) (sym (decode-other x b h k l))
-    ]
-  ]
-]
+-- the end, and a bad record
+from-end : (s : State) (n : ℕ) → record { verdict = Admitted; state = s; refused = n } ≡ outcomeFrom s n (record { calls = []; cut = false })
+unfolding after turnedDown
+from-end s n = ap {B = Outcome} (λ (k : ℕ). record { verdict = Admitted; state = s; refused = k }) (omega arith)
 
--- one byte
-rest-byte : (s : State) (e : Expected) (n x : ℕ) (b : List ℕ) → restOf (takeByte (record { state = s; expected = e; refused = n }) x) b ≡ outcomeFrom s n (leftTo e (x ∷ b))
-unfolding takeByte decodeFrom
-rest-byte s Kind n x b = rest-kind s n x b
-rest-byte s Event n x b = from-call s n (submitting x) (decodeFrom kind b)
-rest-byte s Step n x b = from-call s n (closing x) (decodeFrom kind b)
-rest-byte s Over n x b = refl
+from-bad : (s : State) (n : ℕ) → record { verdict = Admitted; state = s; refused = n + 1 } ≡ outcomeFrom s n (record { calls = []; cut = true })
+unfolding after turnedDown
+from-bad s n = ap {B = Outcome} (λ (k : ℕ). record { verdict = Admitted; state = s; refused = k }) (omega arith)
 
--- no byte left
-rest-end : (s : State) (e : Expected) (n : ℕ) → outcomeOf (record { state = s; expected = e; refused = n }) ≡ outcomeFrom s n (leftTo e [])
-unfolding decodeFrom stateAfter turnedDown
-rest-end s Kind n = refl
-rest-end s Event n = refl
-rest-end s Step n = refl
-rest-end s Over n = refl
+-- the loop: what is left comes to the whole run, and it has counted no more calls than it has passed bytes
+pub record Underway (s : State) (b : List ℕ) (p : Progress) : Type 0 where
+  pub inside : p .at ≤ length b
+  pub same : restOf p b ≡ ranOn s (decode b)
+  pub few : p .going ≡ true → p .refused ≤ p .at
 
--- all bytes
-rest-all : (b : List ℕ) (p : Progress) → outcomeOf (takeBytes p b) ≡ restOf p b
-unfolding takeBytes
-rest-all [] p = rest-end (p .state) (p .expected) (p .refused)
-rest-all (x ∷ b) p = rest-all b (takeByte p x) ∙ rest-byte (p .state) (p .expected) (p .refused) x b
+-- the budget of the loop
+abbrev pub leftOf : List ℕ → Progress → ℕ
+leftOf b p = cond (p .going) (suc (length b - p .at)) 0
 
--- a whole list of bytes
-pub list-outcome : (s : State) (b : List ℕ) → outcomeOf (takeBytes (started s) b) ≡ record { verdict = Admitted; state = stateAfter s (decode b .calls); refused = turnedDown s (decode b .calls) + oneIf (decode b .cut) }
-unfolding decode
-list-outcome s b = rest-all b (started s) ∙ ap (λ (k : ℕ). record { verdict = Admitted; state = stateAfter s (decodeFrom kind b .calls); refused = k }) (omega arith)
-
-one-le : (b : Bool) → oneIf b ≤ 1
-one-le true = omega arith
-one-le false = omega arith
-
--- a byte adds at most one to the count of calls turned down, with a record that is begun and not ended counted
-module _ (s : State) (n x : ℕ) where
-  few-kind : takeKind s n x .refused + oneIf (isCut (takeKind s n x .expected)) ≤ n + 1
-  few-kind = elim (either (eqb x 16)) [
-    | inl h ↦ rw (kind-event s n x h) (omega arith)
-    | inr h ↦ elim (either (eqb x 17)) [
-      | inl k ↦ rw (kind-step s n x h k) (omega arith)
-      | inr k ↦ elim (either (eqb x 18)) [
-        | inl l ↦ rw (kind-finish s n x h k l) (omega (arith, one-le (isTurnedDown (call s finishing .answer))))
-        | inr l ↦ rw (kind-other s n x h k l) (omega arith)
-      ]
-    ]
-  ]
-
-  few-byte : (e : Expected) → let p = takeByte (record { state = s; expected = e; refused = n }) x in p .refused + oneIf (isCut (p .expected)) ≤ n + oneIf (isCut e) + 1
-  unfolding takeByte
-  few-byte Kind = omega (arith, few-kind)
-  few-byte Event = omega (arith, one-le (isTurnedDown (call s (submitting x) .answer)))
-  few-byte Step = omega (arith, one-le (isTurnedDown (call s (closing x) .answer)))
-  few-byte Over = omega arith
-
--- the loop: the bytes that are left bring it to where all bytes bring its start, and it has counted no more calls than bytes
-pub record Underway (calls : List ℕ) (start p : Progress) (i : ℕ) : Type 0 where
-  pub inside : i ≤ length calls
-  pub same : takeBytes p (drop i calls) ≡ takeBytes start calls
-  pub few : p .refused + oneIf (isCut (p .expected)) ≤ i
-
--- before the first byte
-pub begun : (calls : List ℕ) (s : State) → Underway calls (started s) (started s) 0
-begun calls s = record { inside = omega arith; same = refl; few = omega arith }
-
--- a byte more
-pub turn : (calls : List ℕ) (start p t : Progress) (i : ℕ) → Underway calls start p i → i < length calls → t ≡ takeByte p (getD calls i 0) → Underway calls start t (i + 1)
-unfolding takeBytes
-turn calls start p t i u lt e = record {
+pub begun : (s : State) (b : List ℕ) → Underway s b (record { state = s; at = 0; refused = 0; going = true })
+begun s b = record {
   inside = omega arith;
-  same = rw (e, add-one i) (ap (takeBytes p) (sym (drop-cons calls i 0 lt)) ∙ u .same);
-  few = rw e (omega (arith, u .few, few-byte (p .state) (p .refused) (getD calls i 0) (p .expected)));
+  same =
+      ap
+      {B = Outcome}
+      (λ (k : ℕ). record { verdict = Admitted; state = after scheduler s (decode b .calls); refused = k })
+      (omega arith);
+  few = λ g. omega arith;
 }
 
--- the last byte is passed
-ended : (calls : List ℕ) (start p : Progress) (i : ℕ) → Underway calls start p i → length calls ≤ i → p ≡ takeBytes start calls
-unfolding takeBytes
-ended calls start p i u le = sym (ap (takeBytes p) (drop-of-length-le calls le)) ∙ u .same
+-- one record
+module _ (s : State) (b : List ℕ) (p : Progress) (u : Underway s b p) (g : p .going ≡ true) where
+  abbrev here : CallRead
+  here = firstCall (drop (p .at) b)
 
-module _ (calls : List ℕ) (start p : Progress) (i : ℕ) (u : Underway calls start p i) (le : length calls ≤ i) where
-  -- within a record
-  pub ended-cut : isCut (p .expected) ≡ true → record { verdict = Admitted; state = p .state; refused = p .refused + 1 } ≡ outcomeOf (takeBytes start calls)
-  ended-cut h = rw (← (ended calls start p i u le), h)
+  going-rest : outcomeFrom (p .state) (p .refused) (decode (drop (p .at) b)) ≡ ranOn s (decode b)
+  going-rest = sym (ap (λ (t : Bool). cond t (outcomeFrom (p .state) (p .refused) (decode (drop (p .at) b))) (outcomeOf p)) g) ∙ u .same
 
-  -- between records
-  pub ended-whole : isCut (p .expected) ≡ false → record { verdict = Admitted; state = p .state; refused = p .refused } ≡ outcomeOf (takeBytes start calls)
-  ended-whole h = rw (← (ended calls start p i u le), h) (ap (λ (k : ℕ). record { verdict = Admitted; state = p .state; refused = k }) (omega arith))
+  now-left : leftOf b p ≡ suc (length b - p .at)
+  now-left = ap (λ (t : Bool). cond t (suc (length b - p .at)) 0) g
 
-  -- the count of a cut record fits
-  pub cut-few : isCut (p .expected) ≡ true → p .refused + 1 ≤ length calls
-  cut-few h = omega (arith, u .inside, rw h at (u .few))
+  module _ (read : CallRead) (is : read ≡ here) where
+    inside-listed : (c : Call) → read ≡ Listed c → p .at + callSize c ≤ length b
+    inside-listed c h = omega (arith, u .inside, listed-inside (drop (p .at) b) c (sym is ∙ h), length-drop (p .at) b)
+
+    inside-other : (read ≡ End → ⊥) → p .at < length b
+    inside-other ne = go read refl
+      where
+        go : (r : CallRead) → read ≡ r → p .at < length b
+        go (Listed c) h = omega (arith, inside-listed c h, size-some c)
+        go End h = absurd (ne h)
+        go Bad h = omega (arith, u .inside, bad-inside (drop (p .at) b) (sym is ∙ h), length-drop (p .at) b)
+
+    pub room : length b < 18446744073709551616 → Room p read
+    room fits = record {
+      next = λ c h. omega (arith, inside-listed c h);
+      count = λ ne. omega (arith, inside-other ne, u .few g);
+    }
+
+    after-listed : (c : Call) → read ≡ Listed c → Underway s b (takeCall p (Listed c))
+    unfolding takeCall
+    after-listed c h = record {
+      inside = inside-listed c h;
+      same =
+          ap (λ l. outcomeFrom (call (p .state) c .state) (p .refused + oneIf (isTurnedDown (call (p .state) c .answer))) (decode l)) (sym (drop-drop (callSize c) (p .at) b))
+          ∙ from-call (p .state) (p .refused) c (decode (drop (callSize c) (drop (p .at) b)))
+          ∙ ap (outcomeFrom (p .state) (p .refused)) (sym (decode-first (drop (p .at) b) c (sym is ∙ h)))
+          ∙ going-rest;
+      few = λ t. omega (arith, u .few g, size-some c, one-le (isTurnedDown (call (p .state) c .answer)));
+    }
+
+    after-end : read ≡ End → Underway s b (takeCall p End)
+    unfolding takeCall
+    after-end h = record {
+      inside = u .inside;
+      same =
+          from-end (p .state) (p .refused)
+          ∙ ap (outcomeFrom (p .state) (p .refused)) (sym (decode-none (drop (p .at) b) (sym is ∙ h)))
+          ∙ going-rest;
+      few = λ t. absurd (clash t refl);
+    }
+
+    after-bad : read ≡ Bad → Underway s b (takeCall p Bad)
+    unfolding takeCall
+    after-bad h = record {
+      inside = u .inside;
+      same =
+          from-bad (p .state) (p .refused)
+          ∙ ap (outcomeFrom (p .state) (p .refused)) (sym (decode-broken (drop (p .at) b) (sym is ∙ h)))
+          ∙ going-rest;
+      few = λ t. absurd (clash t refl);
+    }
+
+    -- a turn of the loop
+    pub again : (q : Progress) → q ≡ takeCall p read → Underway s b q
+    again q e = go read refl
+      where
+        go : (r : CallRead) → read ≡ r → Underway s b q
+        go (Listed c) h = rw (e, h) (after-listed c h)
+        go End h = rw (e, h) (after-end h)
+        go Bad h = rw (e, h) (after-bad h)
+
+    less-listed : (c : Call) → read ≡ Listed c → leftOf b (takeCall p (Listed c)) < leftOf b p
+    unfolding takeCall
+    less-listed c h = omega (arith, now-left, size-some c, inside-listed c h)
+
+    less-end : leftOf b (takeCall p End) < leftOf b p
+    unfolding takeCall
+    less-end = omega (arith, now-left)
+
+    less-bad : leftOf b (takeCall p Bad) < leftOf b p
+    unfolding takeCall
+    less-bad = omega (arith, now-left)
+
+    pub less : (q : Progress) → q ≡ takeCall p read → leftOf b q < leftOf b p
+    less q e = go read refl
+      where
+        go : (r : CallRead) → read ≡ r → leftOf b q < leftOf b p
+        go (Listed c) h = rw (e, h) (less-listed c h)
+        go End h = rw (e, h) less-end
+        go Bad h = rw (e, h) less-bad
+
+-- the list has stopped
+pub ended : (s : State) (b : List ℕ) (p : Progress) → Underway s b p → p .going ≡ false → outcomeOf p ≡ ranOn s (decode b)
+ended s b p u g =
+    sym (ap (λ (t : Bool). cond t (outcomeFrom (p .state) (p .refused) (decode (drop (p .at) b))) (outcomeOf p)) g) ∙ u .same

@@ -1,3 +1,3 @@
-// A whole list of calls run over a sheet: document 01, "The runner", and demand 3 as the promise of `run::run`.
+// A list of calls, run on a sheet.
 mod progress;
 pub mod run;

@@ -12,25 +12,20 @@ use denote.Enum.Declared as enum
 use denote.Shadow.{shadow}
 use denote.Struct.Declared.{row, shape}
 use denote.Struct.Struct.{Struct}
-use Rattle.scheduler.proofs.Tests.{count-le}
-use Rattle.scheduler.proofs.answer.Outcome as the-outcome
-use Rattle.scheduler.proofs.answer.Verdict as the-verdict
-use Rattle.scheduler.proofs.state.Entry as the-entry
-use Rattle.scheduler.specs.declared.answer.Fault.{Fault}
-use Rattle.scheduler.specs.declared.answer.Fault.the-variants.{Cut, BadKind, Full, BadStep, BadAttributes, BadNames, Unenforceable, Extra, Unknown, AlreadyClosed, NotClosed, Incoherent}
-use Rattle.scheduler.specs.declared.answer.Outcome.{Outcome}
-use Rattle.scheduler.specs.declared.answer.Verdict.{Verdict}
-use Rattle.scheduler.specs.declared.answer.Verdict.the-variants.{Admitted, Refused as Faulty}
-use Rattle.scheduler.specs.declared.event.Fate.{Fate}
-use Rattle.scheduler.specs.declared.event.Fate.the-variants.{Open, Held, Done, Refused, Lapsed}
-use Rattle.scheduler.specs.declared.state.Entry.{Entry}
-use Rattle.scheduler.specs.State.{eventCount, ruleCount, lineCount, lines, blankEntry, fateOf, brokenAt, isHeld}
-use Rattle.scheduler.specs.Faults.{faultNumber}
-use Rattle.scheduler.specs.Readers.{heldCount, brokenCount}
-use Rattle.scheduler.specs.Runner.{decimal, line, historyLines, report}
-use Rattle.report.specs.Written.{fateEnd, entryLine, head, tail, stateText, faultLine}
+use Rattle.plan.proofs.Tests.{count-le}
+use Rattle.report.specs.Types.{SheetFault, Cut, BadKind, Full, BadStep, BadAttributes, BadNames, Unenforceable, Extra, Outcome, Verdict, Admitted, Faulty, Fate, Open, Held, Done, Refused, Lapsed, Entry}
+use Rattle.plan.specs.Plans.{eventCount, ruleCount}
+use Rattle.scheduler.specs.State.{lineCount, lines, fateOf, brokenAt}
+use Rattle.plan.specs.Histories.{blankEntry}
+use Rattle.plan.specs.Fates.{isHeld}
+use Rattle.plan.specs.Faults.{sheetFaultNumber}
+use Rattle.scheduler.specs.Runner.{heldCount, brokenCount, decimal, line, historyLines, report}
+use Rattle.report.specs.Internal.Written.{fateEnd, entryLine, head, tail, stateText, faultLine}
 use Rattle.report.proofs.Pages.{length-one, length-more}
 use Rattle.report.proofs.Splits.{eventsLead, rulesLead, heldLead, brokenLead, callsLead, refusedLead, atLead, entry-split, head-split, tail-split, state-split, fault-is, lines-append, report-admitted, report-faulty}
+use Rattle.scheduler.proofs.reply.Outcome as the-outcome
+use Rattle.plan.proofs.answer.Verdict as the-verdict
+use Rattle.plan.proofs.history.Entry as the-entry
 
 -- an outcome's numbers fit their types
 pub record Small (o : Outcome) : Type 0 where
@@ -39,7 +34,7 @@ pub record Small (o : Outcome) : Type 0 where
   pub entries : (i : ℕ) → getD (o .state .history) i blankEntry .event < 256
   pub places : length (o .state .history) ≡ 16
   pub refused : o .refused < 18446744073709551616
-  pub offset : (f : Fault) (at : ℕ) → o .verdict ≡ Faulty f at → at < 18446744073709551616
+  pub offset : (f : SheetFault) (at : ℕ) → o .verdict ≡ Faulty f at → at < 18446744073709551616
 
 -- what owning the entries of a history tells
 entries-small : (h : List Entry) (us : List Val) → shadow (each ((Struct (shape the-entry.the-type)) .Denot) ((Struct (shape the-entry.the-type)) .own) (map (the-entry.the-type .to) h) us) → (i : ℕ) → getD h i blankEntry .event < 256
@@ -49,7 +44,7 @@ entries-small (e ∷ h) (u ∷ us) g zero = g .0 .1 .1 .0 .1
 entries-small (e ∷ h) (u ∷ us) g (suc i) = entries-small h us (g .1) i
 
 -- what owning a verdict tells
-offset-small : (v : Verdict) {vs : List Val} → Is (enum.row the-verdict.the-type) v vs → (f : Fault) (at : ℕ) → v ≡ Faulty f at → at < 18446744073709551616
+offset-small : (v : Verdict) {vs : List Val} → Is (enum.row the-verdict.the-type) v vs → (f : SheetFault) (at : ℕ) → v ≡ Faulty f at → at < 18446744073709551616
 offset-small Admitted g f at e = absurd (let z : _≡_ {A = ℕ} 0 1 = cc in omega arith)
 offset-small (Faulty k n) g f at e =
     let same : n ≡ at = cc in
@@ -87,7 +82,7 @@ twenty : (x : ℕ) → x < 18446744073709551616 → length (decimal x) ≤ 20
 twenty x h = digits-few 19 x (omega arith)
 
 -- the fault numbers and the fates
-fault-few : (f : Fault) → faultNumber f < 256
+fault-few : (f : SheetFault) → sheetFaultNumber f < 256
 fault-few Cut = omega arith
 fault-few BadKind = omega arith
 fault-few Full = omega arith
@@ -96,10 +91,6 @@ fault-few BadAttributes = omega arith
 fault-few BadNames = omega arith
 fault-few Unenforceable = omega arith
 fault-few Extra = omega arith
-fault-few Unknown = omega arith
-fault-few AlreadyClosed = omega arith
-fault-few NotClosed = omega arith
-fault-few Incoherent = omega arith
 
 fate-few : (x : Fate) → length (fateEnd x) ≤ 9
 fate-few Open = omega arith
@@ -140,8 +131,8 @@ tail-few held broken refused h k r =
       twenty refused r,
     )
 
-fault-line-few : (f : Fault) (at : ℕ) → at < 18446744073709551616 → length (faultLine f at) ≤ 36
-fault-line-few f at h = omega (arith, ap length (fault-is f at (faultNumber f) refl) ∙ length-append (refusedLead ++ decimal (faultNumber f)) (line (atLead ++ decimal at)), line-length atLead at, three (faultNumber f) (fault-few f), twenty at h)
+fault-line-few : (f : SheetFault) (at : ℕ) → at < 18446744073709551616 → length (faultLine f at) ≤ 36
+fault-line-few f at h = omega (arith, ap length (fault-is f at (sheetFaultNumber f) refl) ∙ length-append (refusedLead ++ decimal (sheetFaultNumber f)) (line (atLead ++ decimal at)), line-length atLead at, three (sheetFaultNumber f) (fault-few f), twenty at h)
 
 module _ (o : Outcome) (fits : Small o) where
   -- 16 lines of 12 bytes

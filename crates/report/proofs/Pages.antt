@@ -8,8 +8,8 @@ use lib.ListN.{length, getD, take, set, length-append}
 use lib.Seq.{sets, take-suc, take-all}
 use borrow.Author.Tests.{lt-ltb, le-ltb}
 use Rattle.scheduler.specs.Runner.{digits, decimal}
-use Rattle.scheduler.proofs.Budgets.{digits-enough}
-use Rattle.report.specs.Written.{written, Put}
+use Rattle.scheduler.proofs.Decimals.{digits-enough}
+use Rattle.report.specs.Internal.Written.{written, Put}
 
 -- stores after stores are the stores of both texts
 sets-more : (page : List ℕ) (at n : ℕ) (a b : List ℕ) → n ≡ at + length a → sets (sets page at a) n b ≡ sets page at (a ++ b)

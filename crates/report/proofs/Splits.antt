@@ -7,18 +7,13 @@ use mathlib.Core.List.{List, [], _∷_, _++_, append-nil, append-assoc}
 use mathlib.Core.Path.{_≡_, refl, sym, _∙_, ap}
 use lib.ListN.{length, getD, take, drop, length-append, take-append-drop}
 use lib.Seq.{take-suc, take-all, take-take}
-use Rattle.scheduler.specs.declared.event.Fate.{Fate}
-use Rattle.scheduler.specs.declared.event.Fate.the-variants.{Held, Refused}
-use Rattle.scheduler.specs.declared.answer.Fault.{Fault}
-use Rattle.scheduler.specs.declared.answer.Outcome.{Outcome}
-use Rattle.scheduler.specs.declared.answer.Verdict.the-variants.{Admitted, Refused as Faulty}
-use Rattle.scheduler.specs.declared.state.Entry.{Entry}
-use Rattle.scheduler.specs.declared.state.State.{State}
-use Rattle.scheduler.specs.State.{eventCount, ruleCount, lines, blankEntry}
-use Rattle.scheduler.specs.Faults.{faultNumber}
-use Rattle.scheduler.specs.Readers.{heldCount, brokenCount}
-use Rattle.scheduler.specs.Runner.{decimal, fateWord, eventsWord, rulesWord, brokenWord, callsWord, atWord, _␣_, line, historyLines, report}
-use Rattle.report.specs.Written.{Put, fateEnd, entryLine, head, tail, stateText, faultLine}
+use Rattle.report.specs.Types.{Fate, Held, Refused, SheetFault, Outcome, Admitted, Faulty, Entry, State}
+use Rattle.plan.specs.Plans.{eventCount, ruleCount}
+use Rattle.scheduler.specs.State.{lines}
+use Rattle.plan.specs.Histories.{blankEntry}
+use Rattle.plan.specs.Faults.{sheetFaultNumber}
+use Rattle.scheduler.specs.Runner.{heldCount, brokenCount, decimal, fateWord, eventsWord, rulesWord, brokenWord, callsWord, atWord, _␣_, line, historyLines, report}
+use Rattle.report.specs.Internal.Written.{Put, fateEnd, entryLine, head, tail, stateText, faultLine}
 use Rattle.report.proofs.Pages.{put-then, put-as}
 
 -- a text that is two, one after the other
@@ -72,11 +67,11 @@ pub head-split : (events rules : ℕ) → head events rules ≡ (eventsLead ++ d
 unfolding head
 head-split events rules = ap (λ (l : List ℕ). eventsLead ++ l) (append-assoc (decimal events) (rulesLead ++ decimal rules) (10 ∷ []))
 
-fault-split : (f : Fault) (at : ℕ) → faultLine f at ≡ (refusedLead ++ decimal (faultNumber f)) ++ line (atLead ++ decimal at)
+fault-split : (f : SheetFault) (at : ℕ) → faultLine f at ≡ (refusedLead ++ decimal (sheetFaultNumber f)) ++ line (atLead ++ decimal at)
 unfolding faultLine
-fault-split f at = ap (λ (l : List ℕ). refusedLead ++ l) (append-assoc (decimal (faultNumber f)) (atLead ++ decimal at) (10 ∷ []))
+fault-split f at = ap (λ (l : List ℕ). refusedLead ++ l) (append-assoc (decimal (sheetFaultNumber f)) (atLead ++ decimal at) (10 ∷ []))
 
-pub fault-is : (f : Fault) (at n : ℕ) → n ≡ faultNumber f → faultLine f at ≡ (refusedLead ++ decimal n) ++ line (atLead ++ decimal at)
+pub fault-is : (f : SheetFault) (at n : ℕ) → n ≡ sheetFaultNumber f → faultLine f at ≡ (refusedLead ++ decimal n) ++ line (atLead ++ decimal at)
 fault-is f at n same = rw same (fault-split f at)
 
 pub tail-split : (held broken refused : ℕ) → tail held broken refused ≡ line (heldLead ++ decimal held) ++ (line (brokenLead ++ decimal broken) ++ line (callsLead ++ decimal refused))
@@ -164,6 +159,6 @@ report-admitted o e =
     let s = o .state in
     rw (e, report) (regroup (head (eventCount (s .plan)) (ruleCount (s .plan))) (historyLines (lines s)) (line (heldLead ++ decimal (heldCount s))) (line (brokenLead ++ decimal (brokenCount s))) (line (callsLead ++ decimal (o .refused))))
 
-pub report-faulty : (o : Outcome) (f : Fault) (at : ℕ) → o .verdict ≡ Faulty f at → report o ≡ faultLine f at
+pub report-faulty : (o : Outcome) (f : SheetFault) (at : ℕ) → o .verdict ≡ Faulty f at → report o ≡ faultLine f at
 unfolding report faultLine
 report-faulty o f at e = rw (e, report)

@@ -1,2 +1,3 @@
+pub mod Types
 pub mod Filled
-pub mod Written
+pub mod Internal

@@ -2,7 +2,7 @@
 mod page;
 mod text;
 
-use scheduler::answer::Outcome;
+use scheduler::reply::Outcome;
 use text::put_report;
 ghost use Prim.Native.Nat.{_≤_};
 ghost use mathlib.Core.Path.{_≡_};
@@ -12,6 +12,18 @@ ghost use Rattle.report.specs.Filled.{filled};
 
 // Every report has room in this many bytes.
 pub const MOST: usize = 320;
+
+// Writes the report to the start of the buffer and answers its length; a buffer too short keeps its bytes.
+pub fn write_report(outcome: Outcome, out: &mut [u8]) -> usize
+    ensures length { λ r. ⌜ r ≡ length (report outcome) ⌝ }
+    ensures bytes { λ _. ⌜ now (out .exit) ≡ filled (report outcome) (now (out .entry)) ⌝ }
+    ensures short { λ r. ⌜ r ≤ 320 ⌝ }
+{
+    let mut page = [0u8; MOST];
+    let len = put_report(&mut page, outcome);
+    fill(&page[..len], out);
+    len
+}
 
 // Copies a text to the start of a buffer, if it has room.
 fn fill(text: &[u8], out: &mut [u8])
@@ -25,16 +37,4 @@ fn fill(text: &[u8], out: &mut [u8])
         out[i] = text[i];
         i += 1;
     }
-}
-
-// Writes the report to the start of the buffer and answers its length; a buffer too short keeps its bytes.
-pub fn write_report(outcome: Outcome, out: &mut [u8]) -> usize
-    ensures length { λ r. ⌜ r ≡ length (report outcome) ⌝ }
-    ensures bytes { λ _. ⌜ now (out .exit) ≡ filled (report outcome) (now (out .entry)) ⌝ }
-    ensures short { λ r. ⌜ r ≤ 320 ⌝ }
-{
-    let mut page = [0u8; MOST];
-    let len = put_report(&mut page, outcome);
-    fill(&page[..len], out);
-    len
 }

@@ -4,7 +4,7 @@ ghost use Prim.Native.Nat.{_+_, _≤_};
 ghost use mathlib.Core.List.{_++_};
 ghost use lib.ListN.{length};
 ghost use Rattle.scheduler.specs.Runner.{decimal, line};
-ghost use Rattle.report.specs.Written.{Put};
+ghost use Rattle.report.specs.Internal.Written.{Put};
 
 // A word's bytes.
 pub(crate) fn put_word(page: &mut [u8; MOST], at: usize, word: &[u8]) -> usize

@@ -4,18 +4,33 @@ use super::page::put_count;
 use super::page::put_decimal;
 use super::page::put_line;
 use super::page::put_word;
-use scheduler::answer::Fault;
-use scheduler::answer::Outcome;
-use scheduler::answer::Verdict;
-use scheduler::answer::fault_number;
-use scheduler::event::Fate;
-use scheduler::state::Entry;
+use plan::answer::SheetFault;
+use plan::answer::Verdict;
+use plan::answer::sheet_fault_number;
+use plan::fate::Fate;
+use plan::history::Entry;
+use plan::history::lines_in;
+use readers::broken_count;
+use readers::held_count;
+use scheduler::reply::Outcome;
 use scheduler::state::State;
-ghost use mathlib.Core.Path.{_≡_};
-ghost use Prim.Native.Nat.{_+_, _≤_, min};
+ghost use Prim.Native.Nat.{_+_, _≤_};
 ghost use lib.ListN.{length, take};
 ghost use Rattle.scheduler.specs.Runner.{historyLines, report};
-ghost use Rattle.report.specs.Written.{Put, fateEnd, entryLine, head, tail, stateText, faultLine};
+ghost use Rattle.report.specs.Internal.Written.{Put, fateEnd, entryLine, head, tail, stateText, faultLine};
+
+// An outcome's report.
+pub(crate) fn put_report(page: &mut [u8; MOST], outcome: Outcome) -> usize
+    requires { ⌜ length (report outcome) ≤ 320 ⌝ }
+    ensures { λ r. ⌜ Put (now (page .entry)) 0 (report outcome) (now (page .exit)) r ⌝ }
+{
+    let verdict = outcome.verdict;
+    let state = outcome.state;
+    match verdict {
+        Verdict::Admitted => put_state(page, state, outcome.refused),
+        Verdict::Faulty(fault, offset) => put_fault(page, fault, offset),
+    }
+}
 
 // The fate that ends a history line.
 fn put_fate(page: &mut [u8; MOST], at: usize, fate: Fate) -> usize
@@ -39,13 +54,6 @@ fn put_entry(page: &mut [u8; MOST], at: usize, entry: Entry) -> usize
     let fate = entry.fate;
     let next = put_decimal(page, at, entry.event as usize);
     put_fate(page, next, fate)
-}
-
-// The lines that a length gives: one above 16 stands for all 16.
-fn lines_in(len: u8) -> u8
-    ensures { λ r. ⌜ r ≡ min len 16 ⌝ }
-{
-    if len < 16 { len } else { 16 }
 }
 
 // The history lines.
@@ -94,30 +102,16 @@ fn put_state(page: &mut [u8; MOST], state: State, refused: usize) -> usize
     let rules = plan.rule_count;
     let next = put_head(page, 0, events, rules);
     let then = put_history(page, next, history, state.history_len);
-    let held = state.held_count();
-    let marked = state.broken_count();
+    let held = held_count(state);
+    let marked = broken_count(state);
     put_tail(page, then, held, marked, refused)
 }
 
-// The number that the table gives.
 // The report of a sheet turned down.
-fn put_fault(page: &mut [u8; MOST], fault: Fault, offset: usize) -> usize
+fn put_fault(page: &mut [u8; MOST], fault: SheetFault, offset: usize) -> usize
     requires { ⌜ length (faultLine fault offset) ≤ 320 ⌝ }
     ensures { λ r. ⌜ Put (now (page .entry)) 0 (faultLine fault offset) (now (page .exit)) r ⌝ }
 {
-    let next = put_count(page, 0, b"refused ", fault_number(fault));
+    let next = put_count(page, 0, b"refused ", sheet_fault_number(fault));
     put_line(page, next, b" at ", offset)
-}
-
-// An outcome's report.
-pub(crate) fn put_report(page: &mut [u8; MOST], outcome: Outcome) -> usize
-    requires { ⌜ length (report outcome) ≤ 320 ⌝ }
-    ensures { λ r. ⌜ Put (now (page .entry)) 0 (report outcome) (now (page .exit)) r ⌝ }
-{
-    let verdict = outcome.verdict;
-    let state = outcome.state;
-    match verdict {
-        Verdict::Admitted => put_state(page, state, outcome.refused),
-        Verdict::Refused(fault, offset) => put_fault(page, fault, offset),
-    }
 }

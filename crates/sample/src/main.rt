@@ -1,12 +1,21 @@
-// Runs the reader, the search and single calls on small sheets and prints what comes of each: the gate compares it with the file `stdout`.
+// Runs the reader of sheets, the search, single calls and the readers of a state on small sheets and prints what comes of each: the gate
+// compares it with the file `stdout`.
 use libc::STDOUT_FILENO;
-use scheduler::answer::Answer;
-use scheduler::answer::Reply;
-use scheduler::answer::Verdict;
-use scheduler::answer::fault_number;
-use scheduler::event::Fate;
+use plan::answer::Answer;
+use plan::answer::Verdict;
+use plan::answer::call_fault_number;
+use plan::answer::sheet_fault_number;
+use plan::calls::Call;
+use plan::fate::Fate;
+use plan::fate::Standing;
+use plan::rule::Rule;
+use readers::EntryRead;
+use readers::EventRead;
+use readers::FateRead;
+use readers::Mark;
+use readers::RuleRead;
 use scheduler::order::Found;
-use scheduler::state::Standing;
+use scheduler::reply::Reply;
 use scheduler::state::State;
 
 // What a sheet comes to.
@@ -18,9 +27,9 @@ fn show_reading(name: &[u8], sheet: &[u8]) {
         Verdict::Admitted => {
             io::write_all(STDOUT_FILENO, b" admitted\n");
         }
-        Verdict::Refused(fault, at) => {
+        Verdict::Faulty(fault, at) => {
             io::write_all(STDOUT_FILENO, b" refused ");
-            io::print_decimal(STDOUT_FILENO, fault_number(fault) as u64);
+            io::print_decimal(STDOUT_FILENO, sheet_fault_number(fault) as u64);
             io::write_all(STDOUT_FILENO, b" at ");
             io::print_decimal(STDOUT_FILENO, at as u64);
             io::write_all(STDOUT_FILENO, b"\n");
@@ -96,7 +105,7 @@ fn show_answer(answer: Answer) {
         }
         Answer::TurnedDown(fault) => {
             io::write_all(STDOUT_FILENO, b" turned down by ");
-            io::print_decimal(STDOUT_FILENO, fault_number(fault) as u64);
+            io::print_decimal(STDOUT_FILENO, call_fault_number(fault) as u64);
             io::write_all(STDOUT_FILENO, b"\n");
         }
     }
@@ -111,6 +120,115 @@ fn after_call(call: &[u8], reply: Reply) -> State {
     state
 }
 
+// A number after a word.
+fn show_number(word: &[u8], x: u64) {
+    io::write_all(STDOUT_FILENO, word);
+    io::print_decimal(STDOUT_FILENO, x);
+}
+
+fn show_mark(word: &[u8], mark: Mark) {
+    io::write_all(STDOUT_FILENO, word);
+    match mark {
+        Mark::Yes => {
+            io::write_all(STDOUT_FILENO, b" yes");
+        }
+        Mark::No => {
+            io::write_all(STDOUT_FILENO, b" no");
+        }
+        Mark::Undeclared => {
+            io::write_all(STDOUT_FILENO, b" undeclared");
+        }
+    }
+}
+
+fn show_event_read(read: EventRead) {
+    match read {
+        EventRead::Is(event) => {
+            show_number(b" step ", event.step as u64);
+            show_number(b" attributes ", event.attributes as u64);
+        }
+        EventRead::Undeclared => {
+            io::write_all(STDOUT_FILENO, b" undeclared");
+        }
+    }
+}
+
+fn show_fate_read(read: FateRead) {
+    match read {
+        FateRead::Is(fate) => {
+            show_fate(fate);
+        }
+        FateRead::Undeclared => {
+            io::write_all(STDOUT_FILENO, b" undeclared\n");
+        }
+    }
+}
+
+fn show_rule_read(read: RuleRead) {
+    match read {
+        RuleRead::Is(rule) => {
+            match rule {
+                Rule::Order(a, b) => {
+                    show_number(b" order ", a as u64);
+                    show_number(b" ", b as u64);
+                }
+                Rule::Need(a, b) => {
+                    show_number(b" need ", a as u64);
+                    show_number(b" ", b as u64);
+                }
+                Rule::Conditional(a, b, c) => {
+                    show_number(b" conditional ", a as u64);
+                    show_number(b" ", b as u64);
+                    show_number(b" ", c as u64);
+                }
+            }
+        }
+        RuleRead::Undeclared => {
+            io::write_all(STDOUT_FILENO, b" undeclared");
+        }
+    }
+}
+
+fn show_line_read(read: EntryRead) {
+    match read {
+        EntryRead::Is(entry) => {
+            let fate = entry.fate;
+            show_number(b" event ", entry.event as u64);
+            show_fate(fate);
+        }
+        EntryRead::Undeclared => {
+            io::write_all(STDOUT_FILENO, b" undeclared\n");
+        }
+    }
+}
+
+// What the readers of a state answer for a number.
+fn show_number_read(state: State, i: u8) {
+    show_number(b"event ", i as u64);
+    show_event_read(readers::read_event(state, i));
+    show_fate_read(readers::read_fate(state, i));
+    show_number(b"rule ", i as u64);
+    show_rule_read(readers::read_rule(state, i));
+    show_mark(b" broken", readers::read_broken(state, i));
+    show_number(b" step ", i as u64);
+    show_mark(b" closed", readers::read_closed(state, i));
+    show_number(b" line ", i as u64);
+    show_line_read(readers::read_line(state, i));
+}
+
+// The counts of a state, and what its readers answer for 0, 1 and 2.
+fn show_state(state: State) {
+    show_number(b"events ", readers::event_count(state) as u64);
+    show_number(b" rules ", readers::rule_count(state) as u64);
+    show_number(b" lines ", readers::line_count(state) as u64);
+    show_number(b" held ", readers::held_count(state) as u64);
+    show_number(b" broken ", readers::broken_count(state) as u64);
+    io::write_all(STDOUT_FILENO, b"\n");
+    show_number_read(state, 0);
+    show_number_read(state, 1);
+    show_number_read(state, 2);
+}
+
 // Calls of each sort on one sheet, each on the state that the one before gave, and one on a state that was changed by hand.
 fn show_calls(sheet: &[u8]) {
     let reading = sheet::read::read_sheet(sheet);
@@ -121,6 +239,8 @@ fn show_calls(sheet: &[u8]) {
     state = after_call(b"close step 0:", state.close_step(0));
     state = after_call(b"close step 0:", state.close_step(0));
     after_call(b"wind up:", state.finish());
+    state = after_call(b"close step 1, as data:", state.call(Call::Close(1)));
+    show_state(state);
     let mut torn = first;
     torn.history_len = 1;
     after_call(b"hand in 0, a line too many:", torn.submit(0));

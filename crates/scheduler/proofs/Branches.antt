@@ -5,12 +5,14 @@ use mathlib.Core.List.{List}
 use mathlib.Core.Option.{Option, none, some}
 use mathlib.Core.Path.{_≡_}
 use lib.Dec.{eqb}
-use Rattle.scheduler.specs.Prelude.{Lapsed, Refused, State, Fault, TurnedDown}
-use Rattle.scheduler.specs.Base.{lowest}
-use Rattle.scheduler.specs.State.{eventCount, stepOf, rejectable, delayable, fateOf, isOpen, isHeld, hold, settleAs}
+use Rattle.scheduler.specs.Prelude.{Lapsed, Refused, State, CallFault, TurnedDown, Call}
+use Rattle.plan.specs.Base.{lowest}
+use Rattle.plan.specs.Plans.{eventCount, stepOf, rejectable, delayable}
+use Rattle.scheduler.specs.State.{fateOf, hold, settleAs}
+use Rattle.plan.specs.Fates.{isOpen, isHeld}
 use Rattle.scheduler.specs.Orders.{chosen, doAll}
 use Rattle.scheduler.specs.Calls.{settleOnce, settleUpTo, settle, doAlone, decide, submit, lapse, refuseHeld}
-use Rattle.scheduler.specs.Faults.{Call, callFault, accept, call}
+use Rattle.scheduler.specs.Answers.{callFault, accept, call}
 
 -- settling up to a number of turns
 pub upTo-none : (n : ℕ) (s : State) → settleOnce s ≡ none → settleUpTo (suc n) s ≡ s
@@ -69,7 +71,7 @@ unfolding refuseHeld
 refuse-some n s e h = rw (h, refuseHeld)
 
 -- a call turned down, and one that is taken
-pub call-fault : (s : State) (c : Call) (f : Fault) → callFault s c ≡ some f → call s c ≡ record { answer = TurnedDown f; state = s }
+pub call-fault : (s : State) (c : Call) (f : CallFault) → callFault s c ≡ some f → call s c ≡ record { answer = TurnedDown f; state = s }
 unfolding call
 call-fault s c f h = rw (h, call)
 

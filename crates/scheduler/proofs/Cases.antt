@@ -4,17 +4,24 @@ use mathlib.Core.Bool.{Bool, true, false}
 use mathlib.Core.List.{List, [], _∷_, _++_, map}
 use mathlib.Core.Path.{_≡_, refl}
 use lib.ListN.{take, replicate}
-use Rattle.scheduler.specs.Prelude.{Fate, Open, Held, Done, Refused, Lapsed, Rule, Order, Need, Conditional, Plan, State, Answer, Is, Made, TurnedDown, Cut, BadKind, Full, BadStep, BadAttributes, BadNames, Unenforceable, Extra, Unknown, AlreadyClosed, NotClosed, Incoherent, Admitted, Faulty}
-use Rattle.scheduler.specs.Base.{anyBelow, allBelow, countBelow, firstOf, tabulate, lowest}
-use Rattle.scheduler.specs.State.{eventCount, ruleCount, emptyPlan, firstState, emptyState, lines, hold, settleAs, shut, breakRule}
-use Rattle.scheduler.specs.Rules.{named, enforceable, soundEvent, soundRule, bars, makesWait, forbids, owes, barred, forbidden, owing, fatesIn, anyDone, doneIn, doneInTurn, holds}
-use Rattle.scheduler.specs.Orders.{ready, mayDo, doAll, orderOf, chosen}
+use Rattle.scheduler.specs.Prelude.{Fate, Held, Done, Refused, Lapsed, Need, Plan, State, Answer, Is, Made, TurnedDown, Unknown, AlreadyClosed, NotClosed, Incoherent, Admitted, Faulty, Call, Submit, Close, Finish}
+use Rattle.plan.specs.Base.{anyBelow, allBelow, countBelow, firstOf, tabulate, lowest}
+use Rattle.plan.specs.Plans.{ruleCount, emptyPlan, hasEvent}
+use Rattle.scheduler.specs.State.{firstState, emptyState, lines, hold, settleAs, shut, breakRule}
+use Rattle.plan.specs.Rules.{named, enforceable, soundEvent, soundRule, bars, makesWait, forbids, owes, ready}
+use Rattle.scheduler.specs.Rules.{barred, forbidden, owing}
+use Rattle.plan.specs.Histories.{listedAs, fatesIn, anyDone, doneIn, doneInTurn, holds, declaredOnly, sameFates}
+use Rattle.scheduler.specs.Orders.{mayDo, doAll, orderOf, chosen}
 use Rattle.scheduler.specs.Calls.{toRefuse, toDo, settleOnce, settleUpTo, settle, strains, recordBroken, doAlone, decide, submit, lapse, closeStep, refuseHeld, finish}
-use Rattle.scheduler.specs.Faults.{faultNumber, firstFault, declaredOnly, sameFates, listed, coherentEvent, coherentRule, coherent, Call, submitting, closing, finishing, hasEvent, callFault, accept, call}
-use Rattle.scheduler.specs.Sheet.{ruleOf, addEvent, addRule, addEvents, declare, recordFault, ending, readFrom, readPlan, readSheet}
-use Rattle.scheduler.specs.Prelude.{FateRead, EventRead, RuleRead, EntryRead, Mark}
-use Rattle.scheduler.specs.Readers.{fateRead, eventRead, ruleRead, lineRead, closedRead, brokenRead}
-use Rattle.scheduler.specs.Runner.{Decoded, decodeFrom, decode, stateAfter, turnedDown, runOn, runOf, digits, decimal, historyLines, report}
+use Rattle.plan.specs.Faults.{sheetFaultNumber, firstFault}
+use Rattle.scheduler.specs.Coherent.{coherentEvent, coherentRule, coherent}
+use Rattle.scheduler.specs.Answers.{callFault, accept, call}
+use Rattle.plan.specs.Records.{ruleOf, addEvent, addRule, addEvents, declare, recordFault}
+use Rattle.plan.specs.Sheets.{sheetPlan, ending, readFrom, readPlan}
+use Rattle.scheduler.specs.Sheet.{readSheet}
+use Rattle.plan.specs.Calls.{decodeUpTo, firstCall, firstCall, decode}
+use Rattle.scheduler.specs.Runner.{runOn, runOf, digits, decimal, historyLines, report}
+use Rattle.scheduler.specs.Lists.{scheduler, after, turnedDown}
 
 -- what a sheet and a list of calls come to: the sheet's fault and its offset, or the answers, the history, and for each rule whether it is recorded as broken
 pub data Given : Type 0 where
@@ -29,7 +36,7 @@ abbrev pub givenBy : State → List Answer → Given
 givenBy s answers = ran answers (map (λ l. (l .event, l .fate)) (lines s)) (take (ruleCount (s .plan)) (s .broken))
 
 unfoldable pub given : List ℕ → List Call → Given
-given b cs = let r = readSheet b in elim (r .verdict) [ Faulty f at ↦ rejected (faultNumber f) at | Admitted ↦ givenBy (stateAfter (r .state) cs) (answersOf (r .state) cs) ]
+given b cs = let r = readSheet b in elim (r .verdict) [ Faulty f at ↦ rejected (sheetFaultNumber f) at | Admitted ↦ givenBy (after scheduler (r .state) cs) (answersOf (r .state) cs) ]
 
 -- a row: the sheet, the calls, what they give
 abbrev pub Case : Type 0
@@ -77,78 +84,78 @@ chain n = times (suc n) (1 ∷ 0 ∷ 7 ∷ []) ++ (links n ++ (3 ∷ 0 ∷ n ∷
 abbrev pub cases : List Case
 cases =
     -- A: 01 00 06 01 01 06 02 00 01 03 00 01 05
-    (sheetA, submitting 0 ∷ submitting 1 ∷ [], ran (Is Held ∷ Is Done ∷ []) ((0, Done) ∷ (1, Done) ∷ []) (false ∷ false ∷ []))
+    (sheetA, Submit 0 ∷ Submit 1 ∷ [], ran (Is Held ∷ Is Done ∷ []) ((0, Done) ∷ (1, Done) ∷ []) (false ∷ false ∷ []))
     -- B
-    ∷ (sheetA, submitting 0 ∷ closing 1 ∷ [], ran (Is Held ∷ Made ∷ []) ((1, Lapsed) ∷ (0, Refused) ∷ []) (false ∷ false ∷ []))
+    ∷ (sheetA, Submit 0 ∷ Close 1 ∷ [], ran (Is Held ∷ Made ∷ []) ((1, Lapsed) ∷ (0, Refused) ∷ []) (false ∷ false ∷ []))
     -- C
-    ∷ (sheetC, submitting 1 ∷ closing 0 ∷ [], ran (Is Held ∷ Made ∷ []) ((0, Lapsed) ∷ (1, Done) ∷ []) (false ∷ []))
+    ∷ (sheetC, Submit 1 ∷ Close 0 ∷ [], ran (Is Held ∷ Made ∷ []) ((0, Lapsed) ∷ (1, Done) ∷ []) (false ∷ []))
     -- D
-    ∷ (sheetD, submitting 0 ∷ [], ran (Is Done ∷ []) ((0, Done) ∷ (1, Done) ∷ []) (false ∷ []))
+    ∷ (sheetD, Submit 0 ∷ [], ran (Is Done ∷ []) ((0, Done) ∷ (1, Done) ∷ []) (false ∷ []))
     -- E
-    ∷ (sheetD, closing 1 ∷ submitting 0 ∷ [], ran (Made ∷ Is Done ∷ []) ((1, Lapsed) ∷ (0, Done) ∷ []) (true ∷ []))
+    ∷ (sheetD, Close 1 ∷ Submit 0 ∷ [], ran (Made ∷ Is Done ∷ []) ((1, Lapsed) ∷ (0, Done) ∷ []) (true ∷ []))
     -- F: 01 00 01 01 01 06 03 00 01 05
     ∷ (sheetF, [], rejected 7 6)
     -- G
-    ∷ (sheetG, submitting 1 ∷ submitting 0 ∷ [], ran (Is Done ∷ Is Refused ∷ []) ((1, Done) ∷ (0, Refused) ∷ []) (false ∷ []))
+    ∷ (sheetG, Submit 1 ∷ Submit 0 ∷ [], ran (Is Done ∷ Is Refused ∷ []) ((1, Done) ∷ (0, Refused) ∷ []) (false ∷ []))
     -- H
-    ∷ (1 ∷ 0 ∷ 6 ∷ 1 ∷ 1 ∷ 6 ∷ 2 ∷ 0 ∷ 1 ∷ 2 ∷ 1 ∷ 0 ∷ 5 ∷ [], submitting 0 ∷ submitting 1 ∷ closing 0 ∷ closing 1 ∷ finishing ∷ [], ran (Is Held ∷ Is Held ∷ Made ∷ Made ∷ Made ∷ []) ((0, Refused) ∷ (1, Done) ∷ []) (false ∷ false ∷ []))
+    ∷ (1 ∷ 0 ∷ 6 ∷ 1 ∷ 1 ∷ 6 ∷ 2 ∷ 0 ∷ 1 ∷ 2 ∷ 1 ∷ 0 ∷ 5 ∷ [], Submit 0 ∷ Submit 1 ∷ Close 0 ∷ Close 1 ∷ Finish ∷ [], ran (Is Held ∷ Is Held ∷ Made ∷ Made ∷ Made ∷ []) ((0, Refused) ∷ (1, Done) ∷ []) (false ∷ false ∷ []))
     -- I
     ∷ ([], [], rejected 1 0)
     ∷ (5 ∷ [], [], ran [] [] [])
     ∷ (5 ∷ 5 ∷ [], [], rejected 8 1)
     ∷ (1 ∷ 0 ∷ 4 ∷ 5 ∷ [], [], rejected 5 0)
     -- L
-    ∷ (sheetL, submitting 0 ∷ submitting 1 ∷ closing 2 ∷ [], ran (Is Done ∷ Is Held ∷ Made ∷ []) ((0, Done) ∷ (2, Lapsed) ∷ (1, Refused) ∷ []) (false ∷ []))
+    ∷ (sheetL, Submit 0 ∷ Submit 1 ∷ Close 2 ∷ [], ran (Is Done ∷ Is Held ∷ Made ∷ []) ((0, Done) ∷ (2, Lapsed) ∷ (1, Refused) ∷ []) (false ∷ []))
     -- open events lapse lowest first
-    ∷ (1 ∷ 0 ∷ 6 ∷ 1 ∷ 0 ∷ 6 ∷ 5 ∷ [], closing 0 ∷ [], ran (Made ∷ []) ((0, Lapsed) ∷ (1, Lapsed) ∷ []) [])
+    ∷ (1 ∷ 0 ∷ 6 ∷ 1 ∷ 0 ∷ 6 ∷ 5 ∷ [], Close 0 ∷ [], ran (Made ∷ []) ((0, Lapsed) ∷ (1, Lapsed) ∷ []) [])
     -- orders 2, 0 and 2, 1: the lowest held event with a viable order is 0, by the order 2, 0
-    ∷ (1 ∷ 0 ∷ 6 ∷ 1 ∷ 0 ∷ 6 ∷ 1 ∷ 0 ∷ 6 ∷ 2 ∷ 2 ∷ 0 ∷ 2 ∷ 2 ∷ 1 ∷ 5 ∷ [], submitting 0 ∷ submitting 1 ∷ submitting 2 ∷ [], ran (Is Held ∷ Is Held ∷ Is Done ∷ []) ((2, Done) ∷ (0, Done) ∷ (1, Done) ∷ []) (false ∷ false ∷ []))
+    ∷ (1 ∷ 0 ∷ 6 ∷ 1 ∷ 0 ∷ 6 ∷ 1 ∷ 0 ∷ 6 ∷ 2 ∷ 2 ∷ 0 ∷ 2 ∷ 2 ∷ 1 ∷ 5 ∷ [], Submit 0 ∷ Submit 1 ∷ Submit 2 ∷ [], ran (Is Held ∷ Is Held ∷ Is Done ∷ []) ((2, Done) ∷ (0, Done) ∷ (1, Done) ∷ []) (false ∷ false ∷ []))
     -- a forcible event that nobody needs is left open
-    ∷ (1 ∷ 0 ∷ 1 ∷ 1 ∷ 0 ∷ 6 ∷ 5 ∷ [], submitting 1 ∷ [], ran (Is Done ∷ []) ((1, Done) ∷ []) [])
+    ∷ (1 ∷ 0 ∷ 1 ∷ 1 ∷ 0 ∷ 6 ∷ 5 ∷ [], Submit 1 ∷ [], ran (Is Done ∷ []) ((1, Done) ∷ []) [])
     -- the lowest held event goes first, by an order of two (0, 3), and not 1, which could go alone
-    ∷ (1 ∷ 0 ∷ 6 ∷ 1 ∷ 0 ∷ 6 ∷ 1 ∷ 1 ∷ 6 ∷ 1 ∷ 0 ∷ 1 ∷ 2 ∷ 2 ∷ 0 ∷ 2 ∷ 2 ∷ 1 ∷ 3 ∷ 0 ∷ 3 ∷ 5 ∷ [], submitting 0 ∷ submitting 1 ∷ closing 1 ∷ [], ran (Is Held ∷ Is Held ∷ Made ∷ []) ((2, Lapsed) ∷ (0, Done) ∷ (3, Done) ∷ (1, Done) ∷ []) (false ∷ false ∷ false ∷ []))
+    ∷ (1 ∷ 0 ∷ 6 ∷ 1 ∷ 0 ∷ 6 ∷ 1 ∷ 1 ∷ 6 ∷ 1 ∷ 0 ∷ 1 ∷ 2 ∷ 2 ∷ 0 ∷ 2 ∷ 2 ∷ 1 ∷ 3 ∷ 0 ∷ 3 ∷ 5 ∷ [], Submit 0 ∷ Submit 1 ∷ Close 1 ∷ [], ran (Is Held ∷ Is Held ∷ Made ∷ []) ((2, Lapsed) ∷ (0, Done) ∷ (3, Done) ∷ (1, Done) ∷ []) (false ∷ false ∷ false ∷ []))
     -- a barred event (1, by need 1, 3) is refused before 0 is done
-    ∷ (1 ∷ 0 ∷ 6 ∷ 1 ∷ 0 ∷ 6 ∷ 1 ∷ 1 ∷ 6 ∷ 1 ∷ 1 ∷ 6 ∷ 2 ∷ 2 ∷ 0 ∷ 3 ∷ 1 ∷ 3 ∷ 5 ∷ [], submitting 0 ∷ submitting 1 ∷ closing 1 ∷ [], ran (Is Held ∷ Is Held ∷ Made ∷ []) ((2, Lapsed) ∷ (3, Lapsed) ∷ (1, Refused) ∷ (0, Done) ∷ []) (false ∷ false ∷ []))
+    ∷ (1 ∷ 0 ∷ 6 ∷ 1 ∷ 0 ∷ 6 ∷ 1 ∷ 1 ∷ 6 ∷ 1 ∷ 1 ∷ 6 ∷ 2 ∷ 2 ∷ 0 ∷ 3 ∷ 1 ∷ 3 ∷ 5 ∷ [], Submit 0 ∷ Submit 1 ∷ Close 1 ∷ [], ran (Is Held ∷ Is Held ∷ Made ∷ []) ((2, Lapsed) ∷ (3, Lapsed) ∷ (1, Refused) ∷ (0, Done) ∷ []) (false ∷ false ∷ []))
     -- two held triggers are not barred: order 3 before both, conditional 0, 1, 2
-    ∷ (1 ∷ 0 ∷ 6 ∷ 1 ∷ 0 ∷ 6 ∷ 1 ∷ 1 ∷ 6 ∷ 1 ∷ 0 ∷ 6 ∷ 2 ∷ 3 ∷ 0 ∷ 2 ∷ 3 ∷ 1 ∷ 4 ∷ 0 ∷ 1 ∷ 2 ∷ 5 ∷ [], submitting 0 ∷ submitting 1 ∷ closing 1 ∷ submitting 3 ∷ [], ran (Is Held ∷ Is Held ∷ Made ∷ Is Done ∷ []) ((2, Lapsed) ∷ (3, Done) ∷ (0, Done) ∷ (1, Refused) ∷ []) (false ∷ false ∷ false ∷ []))
+    ∷ (1 ∷ 0 ∷ 6 ∷ 1 ∷ 0 ∷ 6 ∷ 1 ∷ 1 ∷ 6 ∷ 1 ∷ 0 ∷ 6 ∷ 2 ∷ 3 ∷ 0 ∷ 2 ∷ 3 ∷ 1 ∷ 4 ∷ 0 ∷ 1 ∷ 2 ∷ 5 ∷ [], Submit 0 ∷ Submit 1 ∷ Close 1 ∷ Submit 3 ∷ [], ran (Is Held ∷ Is Held ∷ Made ∷ Is Done ∷ []) ((2, Lapsed) ∷ (3, Done) ∷ (0, Done) ∷ (1, Refused) ∷ []) (false ∷ false ∷ false ∷ []))
     -- nor is a trigger barred by one that lapsed; and c done bars nothing
-    ∷ (1 ∷ 0 ∷ 6 ∷ 1 ∷ 1 ∷ 6 ∷ 1 ∷ 1 ∷ 6 ∷ 4 ∷ 0 ∷ 1 ∷ 2 ∷ 4 ∷ 1 ∷ 0 ∷ 2 ∷ 5 ∷ [], closing 1 ∷ submitting 0 ∷ [], ran (Made ∷ Is Done ∷ []) ((1, Lapsed) ∷ (2, Lapsed) ∷ (0, Done) ∷ []) (false ∷ false ∷ []))
-    ∷ (sheetL, submitting 2 ∷ submitting 0 ∷ submitting 1 ∷ [], ran (Is Done ∷ Is Done ∷ Is Done ∷ []) ((2, Done) ∷ (0, Done) ∷ (1, Done) ∷ []) (false ∷ []))
+    ∷ (1 ∷ 0 ∷ 6 ∷ 1 ∷ 1 ∷ 6 ∷ 1 ∷ 1 ∷ 6 ∷ 4 ∷ 0 ∷ 1 ∷ 2 ∷ 4 ∷ 1 ∷ 0 ∷ 2 ∷ 5 ∷ [], Close 1 ∷ Submit 0 ∷ [], ran (Made ∷ Is Done ∷ []) ((1, Lapsed) ∷ (2, Lapsed) ∷ (0, Done) ∷ []) (false ∷ false ∷ []))
+    ∷ (sheetL, Submit 2 ∷ Submit 0 ∷ Submit 1 ∷ [], ran (Is Done ∷ Is Done ∷ Is Done ∷ []) ((2, Done) ∷ (0, Done) ∷ (1, Done) ∷ []) (false ∷ []))
     -- settling goes on: four events waited for 4
-    ∷ (times 4 (1 ∷ 0 ∷ 6 ∷ []) ++ (1 ∷ 1 ∷ 6 ∷ 2 ∷ 4 ∷ 0 ∷ 2 ∷ 4 ∷ 1 ∷ 2 ∷ 4 ∷ 2 ∷ 2 ∷ 4 ∷ 3 ∷ 5 ∷ []), submitting 3 ∷ submitting 2 ∷ submitting 1 ∷ submitting 0 ∷ closing 1 ∷ [], ran (Is Held ∷ Is Held ∷ Is Held ∷ Is Held ∷ Made ∷ []) ((4, Lapsed) ∷ (0, Done) ∷ (1, Done) ∷ (2, Done) ∷ (3, Done) ∷ []) (replicate 4 false))
+    ∷ (times 4 (1 ∷ 0 ∷ 6 ∷ []) ++ (1 ∷ 1 ∷ 6 ∷ 2 ∷ 4 ∷ 0 ∷ 2 ∷ 4 ∷ 1 ∷ 2 ∷ 4 ∷ 2 ∷ 2 ∷ 4 ∷ 3 ∷ 5 ∷ []), Submit 3 ∷ Submit 2 ∷ Submit 1 ∷ Submit 0 ∷ Close 1 ∷ [], ran (Is Held ∷ Is Held ∷ Is Held ∷ Is Held ∷ Made ∷ []) ((4, Lapsed) ∷ (0, Done) ∷ (1, Done) ∷ (2, Done) ∷ (3, Done) ∷ []) (replicate 4 false))
     -- winding up goes on: two pairs as in H
-    ∷ (times 4 (1 ∷ 7 ∷ 6 ∷ []) ++ (2 ∷ 0 ∷ 1 ∷ 2 ∷ 1 ∷ 0 ∷ 2 ∷ 2 ∷ 3 ∷ 2 ∷ 3 ∷ 2 ∷ 5 ∷ []), submitting 0 ∷ submitting 1 ∷ submitting 2 ∷ submitting 3 ∷ finishing ∷ closing 7 ∷ closing 7 ∷ finishing ∷ [], ran (Is Held ∷ Is Held ∷ Is Held ∷ Is Held ∷ TurnedDown NotClosed ∷ Made ∷ TurnedDown AlreadyClosed ∷ Made ∷ []) ((0, Refused) ∷ (1, Done) ∷ (2, Refused) ∷ (3, Done) ∷ []) (replicate 4 false))
+    ∷ (times 4 (1 ∷ 7 ∷ 6 ∷ []) ++ (2 ∷ 0 ∷ 1 ∷ 2 ∷ 1 ∷ 0 ∷ 2 ∷ 2 ∷ 3 ∷ 2 ∷ 3 ∷ 2 ∷ 5 ∷ []), Submit 0 ∷ Submit 1 ∷ Submit 2 ∷ Submit 3 ∷ Finish ∷ Close 7 ∷ Close 7 ∷ Finish ∷ [], ran (Is Held ∷ Is Held ∷ Is Held ∷ Is Held ∷ TurnedDown NotClosed ∷ Made ∷ TurnedDown AlreadyClosed ∷ Made ∷ []) ((0, Refused) ∷ (1, Done) ∷ (2, Refused) ∷ (3, Done) ∷ []) (replicate 4 false))
     -- an event that is not delayable goes by its own order before anything is settled: 1, 0, where A has 0, 1
-    ∷ (1 ∷ 0 ∷ 6 ∷ 1 ∷ 0 ∷ 0 ∷ 3 ∷ 0 ∷ 1 ∷ 5 ∷ [], submitting 0 ∷ submitting 1 ∷ [], ran (Is Held ∷ Is Done ∷ []) ((1, Done) ∷ (0, Done) ∷ []) (false ∷ []))
+    ∷ (1 ∷ 0 ∷ 6 ∷ 1 ∷ 0 ∷ 0 ∷ 3 ∷ 0 ∷ 1 ∷ 5 ∷ [], Submit 0 ∷ Submit 1 ∷ [], ran (Is Held ∷ Is Done ∷ []) ((1, Done) ∷ (0, Done) ∷ []) (false ∷ []))
     -- a forced b that is delayable waits too (need 0, 1, order 2, 1): 0 is done alone. Its recorded rule owes no more: 3 is done
-    ∷ (1 ∷ 0 ∷ 0 ∷ 1 ∷ 0 ∷ 7 ∷ 1 ∷ 0 ∷ 6 ∷ 1 ∷ 0 ∷ 6 ∷ 3 ∷ 0 ∷ 1 ∷ 2 ∷ 2 ∷ 1 ∷ 5 ∷ [], submitting 0 ∷ submitting 3 ∷ [], ran (Is Done ∷ Is Done ∷ []) ((0, Done) ∷ (3, Done) ∷ []) (true ∷ false ∷ []))
+    ∷ (1 ∷ 0 ∷ 0 ∷ 1 ∷ 0 ∷ 7 ∷ 1 ∷ 0 ∷ 6 ∷ 1 ∷ 0 ∷ 6 ∷ 3 ∷ 0 ∷ 1 ∷ 2 ∷ 2 ∷ 1 ∷ 5 ∷ [], Submit 0 ∷ Submit 3 ∷ [], ran (Is Done ∷ Is Done ∷ []) ((0, Done) ∷ (3, Done) ∷ []) (true ∷ false ∷ []))
     -- the same: recorded still, though 1 is done at last and the rule holds again
-    ∷ (1 ∷ 0 ∷ 0 ∷ 1 ∷ 0 ∷ 7 ∷ 1 ∷ 0 ∷ 6 ∷ 1 ∷ 0 ∷ 6 ∷ 3 ∷ 0 ∷ 1 ∷ 2 ∷ 2 ∷ 1 ∷ 5 ∷ [], submitting 0 ∷ submitting 2 ∷ submitting 1 ∷ [], ran (Is Done ∷ Is Done ∷ Is Done ∷ []) ((0, Done) ∷ (2, Done) ∷ (1, Done) ∷ []) (true ∷ false ∷ []))
+    ∷ (1 ∷ 0 ∷ 0 ∷ 1 ∷ 0 ∷ 7 ∷ 1 ∷ 0 ∷ 6 ∷ 1 ∷ 0 ∷ 6 ∷ 3 ∷ 0 ∷ 1 ∷ 2 ∷ 2 ∷ 1 ∷ 5 ∷ [], Submit 0 ∷ Submit 2 ∷ Submit 1 ∷ [], ran (Is Done ∷ Is Done ∷ Is Done ∷ []) ((0, Done) ∷ (2, Done) ∷ (1, Done) ∷ []) (true ∷ false ∷ []))
     -- a b that is not delayable never waits (order 0, 1), also where it is forced (need 2, 1)
-    ∷ (1 ∷ 0 ∷ 6 ∷ 1 ∷ 0 ∷ 3 ∷ 1 ∷ 0 ∷ 6 ∷ 2 ∷ 0 ∷ 1 ∷ 3 ∷ 2 ∷ 1 ∷ 5 ∷ [], submitting 2 ∷ submitting 0 ∷ [], ran (Is Done ∷ Is Refused ∷ []) ((1, Done) ∷ (2, Done) ∷ (0, Refused) ∷ []) (false ∷ false ∷ []))
+    ∷ (1 ∷ 0 ∷ 6 ∷ 1 ∷ 0 ∷ 3 ∷ 1 ∷ 0 ∷ 6 ∷ 2 ∷ 0 ∷ 1 ∷ 3 ∷ 2 ∷ 1 ∷ 5 ∷ [], Submit 2 ∷ Submit 0 ∷ [], ran (Is Done ∷ Is Refused ∷ []) ((1, Done) ∷ (2, Done) ∷ (0, Refused) ∷ []) (false ∷ false ∷ []))
     -- a conditional of which a alone is rejectable: a is refused and not done alone, b is done alone
-    ∷ (1 ∷ 0 ∷ 2 ∷ 1 ∷ 0 ∷ 0 ∷ 1 ∷ 1 ∷ 6 ∷ 4 ∷ 0 ∷ 1 ∷ 2 ∷ 5 ∷ [], submitting 1 ∷ closing 1 ∷ submitting 0 ∷ [], ran (Is Done ∷ Made ∷ Is Refused ∷ []) ((1, Done) ∷ (2, Lapsed) ∷ (0, Refused) ∷ []) (false ∷ []))
-    ∷ (1 ∷ 0 ∷ 2 ∷ 1 ∷ 0 ∷ 0 ∷ 1 ∷ 1 ∷ 6 ∷ 4 ∷ 0 ∷ 1 ∷ 2 ∷ 5 ∷ [], submitting 0 ∷ closing 1 ∷ submitting 1 ∷ [], ran (Is Done ∷ Made ∷ Is Done ∷ []) ((0, Done) ∷ (2, Lapsed) ∷ (1, Done) ∷ []) (true ∷ []))
+    ∷ (1 ∷ 0 ∷ 2 ∷ 1 ∷ 0 ∷ 0 ∷ 1 ∷ 1 ∷ 6 ∷ 4 ∷ 0 ∷ 1 ∷ 2 ∷ 5 ∷ [], Submit 1 ∷ Close 1 ∷ Submit 0 ∷ [], ran (Is Done ∷ Made ∷ Is Refused ∷ []) ((1, Done) ∷ (2, Lapsed) ∷ (0, Refused) ∷ []) (false ∷ []))
+    ∷ (1 ∷ 0 ∷ 2 ∷ 1 ∷ 0 ∷ 0 ∷ 1 ∷ 1 ∷ 6 ∷ 4 ∷ 0 ∷ 1 ∷ 2 ∷ 5 ∷ [], Submit 0 ∷ Close 1 ∷ Submit 1 ∷ [], ran (Is Done ∷ Made ∷ Is Done ∷ []) ((0, Done) ∷ (2, Lapsed) ∷ (1, Done) ∷ []) (true ∷ []))
     -- settling after a refused hand-in: 1 waited for 0
-    ∷ (1 ∷ 0 ∷ 2 ∷ 1 ∷ 0 ∷ 6 ∷ 1 ∷ 0 ∷ 6 ∷ 3 ∷ 0 ∷ 2 ∷ 2 ∷ 0 ∷ 1 ∷ 5 ∷ [], submitting 1 ∷ submitting 0 ∷ [], ran (Is Held ∷ Is Refused ∷ []) ((0, Refused) ∷ (1, Done) ∷ []) (false ∷ false ∷ []))
+    ∷ (1 ∷ 0 ∷ 2 ∷ 1 ∷ 0 ∷ 6 ∷ 1 ∷ 0 ∷ 6 ∷ 3 ∷ 0 ∷ 2 ∷ 2 ∷ 0 ∷ 1 ∷ 5 ∷ [], Submit 1 ∷ Submit 0 ∷ [], ran (Is Held ∷ Is Refused ∷ []) ((0, Refused) ∷ (1, Done) ∷ []) (false ∷ false ∷ []))
     -- a rule that neither forbade nor owed is not recorded
-    ∷ (1 ∷ 0 ∷ 0 ∷ 1 ∷ 1 ∷ 1 ∷ 1 ∷ 0 ∷ 6 ∷ 3 ∷ 0 ∷ 1 ∷ 4 ∷ 0 ∷ 2 ∷ 1 ∷ 5 ∷ [], closing 1 ∷ submitting 0 ∷ [], ran (Made ∷ Is Done ∷ []) ((1, Lapsed) ∷ (0, Done) ∷ []) (true ∷ false ∷ []))
+    ∷ (1 ∷ 0 ∷ 0 ∷ 1 ∷ 1 ∷ 1 ∷ 1 ∷ 0 ∷ 6 ∷ 3 ∷ 0 ∷ 1 ∷ 4 ∷ 0 ∷ 2 ∷ 1 ∷ 5 ∷ [], Close 1 ∷ Submit 0 ∷ [], ran (Made ∷ Is Done ∷ []) ((1, Lapsed) ∷ (0, Done) ∷ []) (true ∷ false ∷ []))
     -- a need's b that is held is still owed: 1 waits for 2 (order 2, 1), so 0 (need 0, 1) is held, and goes by the order 0, 2, 1
-    ∷ (1 ∷ 0 ∷ 6 ∷ 1 ∷ 0 ∷ 6 ∷ 1 ∷ 0 ∷ 6 ∷ 2 ∷ 2 ∷ 1 ∷ 3 ∷ 0 ∷ 1 ∷ 5 ∷ [], submitting 1 ∷ submitting 0 ∷ submitting 2 ∷ [], ran (Is Held ∷ Is Held ∷ Is Done ∷ []) ((0, Done) ∷ (2, Done) ∷ (1, Done) ∷ []) (false ∷ false ∷ []))
+    ∷ (1 ∷ 0 ∷ 6 ∷ 1 ∷ 0 ∷ 6 ∷ 1 ∷ 0 ∷ 6 ∷ 2 ∷ 2 ∷ 1 ∷ 3 ∷ 0 ∷ 1 ∷ 5 ∷ [], Submit 1 ∷ Submit 0 ∷ Submit 2 ∷ [], ran (Is Held ∷ Is Held ∷ Is Done ∷ []) ((0, Done) ∷ (2, Done) ∷ (1, Done) ∷ []) (false ∷ false ∷ []))
     -- so is a conditional's c: 2 waits for 3 (order 3, 2), so 1 (conditional 0, 1, 2) is held
-    ∷ (1 ∷ 0 ∷ 6 ∷ 1 ∷ 0 ∷ 6 ∷ 1 ∷ 0 ∷ 6 ∷ 1 ∷ 0 ∷ 6 ∷ 2 ∷ 3 ∷ 2 ∷ 4 ∷ 0 ∷ 1 ∷ 2 ∷ 5 ∷ [], submitting 2 ∷ submitting 0 ∷ submitting 1 ∷ submitting 3 ∷ [], ran (Is Held ∷ Is Done ∷ Is Held ∷ Is Done ∷ []) ((0, Done) ∷ (1, Done) ∷ (3, Done) ∷ (2, Done) ∷ []) (false ∷ false ∷ []))
+    ∷ (1 ∷ 0 ∷ 6 ∷ 1 ∷ 0 ∷ 6 ∷ 1 ∷ 0 ∷ 6 ∷ 1 ∷ 0 ∷ 6 ∷ 2 ∷ 3 ∷ 2 ∷ 4 ∷ 0 ∷ 1 ∷ 2 ∷ 5 ∷ [], Submit 2 ∷ Submit 0 ∷ Submit 1 ∷ Submit 3 ∷ [], ran (Is Held ∷ Is Done ∷ Is Held ∷ Is Done ∷ []) ((0, Done) ∷ (1, Done) ∷ (3, Done) ∷ (2, Done) ∷ []) (false ∷ false ∷ []))
     -- an order waits for an a that is held: 0 (need 0, 2) is held, so 1 (order 0, 1) is held too
-    ∷ (1 ∷ 0 ∷ 6 ∷ 1 ∷ 0 ∷ 6 ∷ 1 ∷ 0 ∷ 6 ∷ 2 ∷ 0 ∷ 1 ∷ 3 ∷ 0 ∷ 2 ∷ 5 ∷ [], submitting 0 ∷ submitting 1 ∷ submitting 2 ∷ [], ran (Is Held ∷ Is Held ∷ Is Done ∷ []) ((0, Done) ∷ (2, Done) ∷ (1, Done) ∷ []) (false ∷ false ∷ []))
+    ∷ (1 ∷ 0 ∷ 6 ∷ 1 ∷ 0 ∷ 6 ∷ 1 ∷ 0 ∷ 6 ∷ 2 ∷ 0 ∷ 1 ∷ 3 ∷ 0 ∷ 2 ∷ 5 ∷ [], Submit 0 ∷ Submit 1 ∷ Submit 2 ∷ [], ran (Is Held ∷ Is Held ∷ Is Done ∷ []) ((0, Done) ∷ (2, Done) ∷ (1, Done) ∷ []) (false ∷ false ∷ []))
     -- an order of six is the longest: a chain of six is done by force, and of a chain of seven nothing is done
-    ∷ (chain 5, submitting 0 ∷ [], ran (Is Done ∷ []) ((0, Done) ∷ (1, Done) ∷ (2, Done) ∷ (3, Done) ∷ (4, Done) ∷ (5, Done) ∷ []) (replicate 6 false))
-    ∷ (chain 6, submitting 0 ∷ [], ran (Is Held ∷ []) [] (replicate 7 false))
+    ∷ (chain 5, Submit 0 ∷ [], ran (Is Done ∷ []) ((0, Done) ∷ (1, Done) ∷ (2, Done) ∷ (3, Done) ∷ (4, Done) ∷ (5, Done) ∷ []) (replicate 6 false))
+    ∷ (chain 6, Submit 0 ∷ [], ran (Is Held ∷ []) [] (replicate 7 false))
     -- handed in again: the fate is the answer, and nothing changes
-    ∷ (sheetA, submitting 0 ∷ submitting 0 ∷ submitting 1 ∷ submitting 0 ∷ [], ran (Is Held ∷ Is Held ∷ Is Done ∷ Is Done ∷ []) ((0, Done) ∷ (1, Done) ∷ []) (false ∷ false ∷ []))
-    ∷ (sheetG, submitting 1 ∷ submitting 0 ∷ submitting 0 ∷ [], ran (Is Done ∷ Is Refused ∷ Is Refused ∷ []) ((1, Done) ∷ (0, Refused) ∷ []) (false ∷ []))
+    ∷ (sheetA, Submit 0 ∷ Submit 0 ∷ Submit 1 ∷ Submit 0 ∷ [], ran (Is Held ∷ Is Held ∷ Is Done ∷ Is Done ∷ []) ((0, Done) ∷ (1, Done) ∷ []) (false ∷ false ∷ []))
+    ∷ (sheetG, Submit 1 ∷ Submit 0 ∷ Submit 0 ∷ [], ran (Is Done ∷ Is Refused ∷ Is Refused ∷ []) ((1, Done) ∷ (0, Refused) ∷ []) (false ∷ []))
     -- numbers 9, 10 and 11, and an event of a closed step
-    ∷ (sheetA, closing 8 ∷ closing 2 ∷ closing 0 ∷ closing 0 ∷ finishing ∷ submitting 2 ∷ submitting 0 ∷ [], ran (TurnedDown Unknown ∷ TurnedDown Unknown ∷ Made ∷ TurnedDown AlreadyClosed ∷ TurnedDown NotClosed ∷ TurnedDown Unknown ∷ Is Lapsed ∷ []) ((0, Lapsed) ∷ []) (false ∷ false ∷ []))
+    ∷ (sheetA, Close 8 ∷ Close 2 ∷ Close 0 ∷ Close 0 ∷ Finish ∷ Submit 2 ∷ Submit 0 ∷ [], ran (TurnedDown Unknown ∷ TurnedDown Unknown ∷ Made ∷ TurnedDown AlreadyClosed ∷ TurnedDown NotClosed ∷ TurnedDown Unknown ∷ Is Lapsed ∷ []) ((0, Lapsed) ∷ []) (false ∷ false ∷ []))
     -- a plan without events winds up, and again
-    ∷ (5 ∷ [], submitting 0 ∷ closing 0 ∷ finishing ∷ finishing ∷ [], ran (TurnedDown Unknown ∷ TurnedDown Unknown ∷ Made ∷ Made ∷ []) [] [])
+    ∷ (5 ∷ [], Submit 0 ∷ Close 0 ∷ Finish ∷ Finish ∷ [], ran (TurnedDown Unknown ∷ TurnedDown Unknown ∷ Made ∷ Made ∷ []) [] [])
     -- 1: bytes end inside a record, and before kind 5 (at the sheet's length)
     ∷ (6 ∷ [], [], rejected 1 0)
     ∷ (1 ∷ 0 ∷ 6 ∷ 4 ∷ 0 ∷ 1 ∷ [], [], rejected 1 3)
@@ -211,46 +218,46 @@ Brought = State × List Call × List Answer
 abbrev pub brought : List Brought
 brought =
     -- a rule recorded as broken forbids nothing: in G a may be done after b, in C b need not wait for a
-    (breakRule (settleAs Done (firstOn sheetG) 1) 0, submitting 0 ∷ [], Is Done ∷ [])
-    ∷ (breakRule (firstOn sheetC) 0, submitting 1 ∷ [], Is Done ∷ [])
+    (breakRule (settleAs Done (firstOn sheetG) 1) 0, Submit 0 ∷ [], Is Done ∷ [])
+    ∷ (breakRule (firstOn sheetC) 0, Submit 1 ∷ [], Is Done ∷ [])
     -- an event that isn't open: nothing changes, though 0 could be done; winding up settles first
-    ∷ (hold (firstOn sheetG) 0, submitting 0 ∷ [], Is Held ∷ [])
-    ∷ (shut (hold (firstOn (1 ∷ 0 ∷ 6 ∷ 5 ∷ [])) 0) 0, finishing ∷ submitting 0 ∷ [], Made ∷ Is Done ∷ [])
+    ∷ (hold (firstOn sheetG) 0, Submit 0 ∷ [], Is Held ∷ [])
+    ∷ (shut (hold (firstOn (1 ∷ 0 ∷ 6 ∷ 5 ∷ [])) 0) 0, Finish ∷ Submit 0 ∷ [], Made ∷ Is Done ∷ [])
     -- 12: a count passes its limit
-    ∷ (firstState (counting 16 0), finishing ∷ [], TurnedDown NotClosed ∷ [])
-    ∷ (firstState (counting 17 0), finishing ∷ [], TurnedDown Incoherent ∷ [])
-    ∷ (firstState (counting 0 17), finishing ∷ [], TurnedDown Incoherent ∷ [])
-    ∷ (doAll (firstState (counting 16 0)) (tabulate 16 0 (λ e. e)), finishing ∷ [], TurnedDown NotClosed ∷ [])
-    ∷ (withLines 17 (doAll (firstState (counting 16 0)) (tabulate 16 0 (λ e. e))), finishing ∷ [], TurnedDown Incoherent ∷ [])
+    ∷ (firstState (counting 16 0), Finish ∷ [], TurnedDown NotClosed ∷ [])
+    ∷ (firstState (counting 17 0), Finish ∷ [], TurnedDown Incoherent ∷ [])
+    ∷ (firstState (counting 0 17), Finish ∷ [], TurnedDown Incoherent ∷ [])
+    ∷ (doAll (firstState (counting 16 0)) (tabulate 16 0 (λ e. e)), Finish ∷ [], TurnedDown NotClosed ∷ [])
+    ∷ (withLines 17 (doAll (firstState (counting 16 0)) (tabulate 16 0 (λ e. e))), Finish ∷ [], TurnedDown Incoherent ∷ [])
     -- a declared event or rule is one that a sheet would be turned down for
-    ∷ (firstState (addEvent emptyPlan 8 0), submitting 0 ∷ [], TurnedDown Incoherent ∷ [])
-    ∷ (firstState (addEvent emptyPlan 0 4), submitting 0 ∷ [], TurnedDown Incoherent ∷ [])
-    ∷ (firstState (addRule (addEvent emptyPlan 0 7) (Need 0 0)), submitting 0 ∷ [], TurnedDown Incoherent ∷ [])
-    ∷ (firstState (addRule (addEvent (addEvent emptyPlan 0 1) 0 6) (Need 0 1)), submitting 0 ∷ [], TurnedDown Incoherent ∷ [])
+    ∷ (firstState (addEvent emptyPlan 8 0), Submit 0 ∷ [], TurnedDown Incoherent ∷ [])
+    ∷ (firstState (addEvent emptyPlan 0 4), Submit 0 ∷ [], TurnedDown Incoherent ∷ [])
+    ∷ (firstState (addRule (addEvent emptyPlan 0 7) (Need 0 0)), Submit 0 ∷ [], TurnedDown Incoherent ∷ [])
+    ∷ (firstState (addRule (addEvent (addEvent emptyPlan 0 1) 0 6) (Need 0 1)), Submit 0 ∷ [], TurnedDown Incoherent ∷ [])
     -- the history names an undeclared event, leaves a settled one out, has one twice, has one that is not settled, has another fate
-    ∷ (settleAs Done emptyState 0, finishing ∷ [], TurnedDown Incoherent ∷ [])
-    ∷ (withLines 0 (settleAs Done (firstOn sheetG) 1), submitting 0 ∷ [], TurnedDown Incoherent ∷ [])
-    ∷ (settleAs Done (settleAs Done (firstOn sheetG) 1) 1, submitting 0 ∷ [], TurnedDown Incoherent ∷ [])
-    ∷ (hold (settleAs Done (firstOn sheetG) 0) 0, submitting 1 ∷ [], TurnedDown Incoherent ∷ [])
-    ∷ (withLines 1 (settleAs Refused (settleAs Done (firstOn sheetG) 0) 0), submitting 1 ∷ [], TurnedDown Incoherent ∷ [])
+    ∷ (settleAs Done emptyState 0, Finish ∷ [], TurnedDown Incoherent ∷ [])
+    ∷ (withLines 0 (settleAs Done (firstOn sheetG) 1), Submit 0 ∷ [], TurnedDown Incoherent ∷ [])
+    ∷ (settleAs Done (settleAs Done (firstOn sheetG) 1) 1, Submit 0 ∷ [], TurnedDown Incoherent ∷ [])
+    ∷ (hold (settleAs Done (firstOn sheetG) 0) 0, Submit 1 ∷ [], TurnedDown Incoherent ∷ [])
+    ∷ (withLines 1 (settleAs Refused (settleAs Done (firstOn sheetG) 0) 0), Submit 1 ∷ [], TurnedDown Incoherent ∷ [])
     -- a held event is not delayable; an open event's step is closed
-    ∷ (hold (firstOn sheetD) 0, submitting 1 ∷ [], TurnedDown Incoherent ∷ [])
-    ∷ (shut (firstOn sheetD) 0, submitting 1 ∷ [], TurnedDown Incoherent ∷ [])
+    ∷ (hold (firstOn sheetD) 0, Submit 1 ∷ [], TurnedDown Incoherent ∷ [])
+    ∷ (shut (firstOn sheetD) 0, Submit 1 ∷ [], TurnedDown Incoherent ∷ [])
     -- an unbroken rule owes, or doesn't hold; a recorded one may
-    ∷ (settleAs Done (firstOn sheetD) 0, submitting 1 ∷ [], TurnedDown Incoherent ∷ [])
-    ∷ (breakRule (settleAs Done (firstOn sheetD) 0) 0, submitting 1 ∷ [], Is Done ∷ [])
-    ∷ (settleAs Done (settleAs Done (firstOn sheetG) 1) 0, submitting 1 ∷ [], TurnedDown Incoherent ∷ [])
-    ∷ (breakRule (settleAs Done (settleAs Done (firstOn sheetG) 1) 0) 0, submitting 1 ∷ [], Is Done ∷ [])
-    ∷ (settleAs Refused (settleAs Done (firstOn sheetD) 0) 1, finishing ∷ [], TurnedDown Incoherent ∷ [])
-    ∷ (doAll (settleAs Refused (firstOn sheetL) 2) (0 ∷ 1 ∷ []), finishing ∷ [], TurnedDown Incoherent ∷ [])
-    ∷ (breakRule (doAll (settleAs Refused (firstOn sheetL) 2) (0 ∷ 1 ∷ [])) 0, finishing ∷ [], TurnedDown NotClosed ∷ [])
+    ∷ (settleAs Done (firstOn sheetD) 0, Submit 1 ∷ [], TurnedDown Incoherent ∷ [])
+    ∷ (breakRule (settleAs Done (firstOn sheetD) 0) 0, Submit 1 ∷ [], Is Done ∷ [])
+    ∷ (settleAs Done (settleAs Done (firstOn sheetG) 1) 0, Submit 1 ∷ [], TurnedDown Incoherent ∷ [])
+    ∷ (breakRule (settleAs Done (settleAs Done (firstOn sheetG) 1) 0) 0, Submit 1 ∷ [], Is Done ∷ [])
+    ∷ (settleAs Refused (settleAs Done (firstOn sheetD) 0) 1, Finish ∷ [], TurnedDown Incoherent ∷ [])
+    ∷ (doAll (settleAs Refused (firstOn sheetL) 2) (0 ∷ 1 ∷ []), Finish ∷ [], TurnedDown Incoherent ∷ [])
+    ∷ (breakRule (doAll (settleAs Refused (firstOn sheetL) 2) (0 ∷ 1 ∷ [])) 0, Finish ∷ [], TurnedDown NotClosed ∷ [])
     -- a closed step without events, and a mark past the rules, are not looked at
-    ∷ (breakRule (shut (firstOn sheetD) 7) 15, submitting 0 ∷ [], Is Done ∷ [])
+    ∷ (breakRule (shut (firstOn sheetD) 7) 15, Submit 0 ∷ [], Is Done ∷ [])
     -- 12 goes before 9, 10 and 11
-    ∷ (hold (firstOn sheetD) 0, submitting 2 ∷ [], TurnedDown Incoherent ∷ [])
-    ∷ (hold (firstOn sheetD) 0, closing 2 ∷ [], TurnedDown Incoherent ∷ [])
-    ∷ (shut (firstOn sheetD) 0, closing 0 ∷ [], TurnedDown Incoherent ∷ [])
-    ∷ (hold (firstOn sheetD) 0, finishing ∷ [], TurnedDown Incoherent ∷ [])
+    ∷ (hold (firstOn sheetD) 0, Submit 2 ∷ [], TurnedDown Incoherent ∷ [])
+    ∷ (hold (firstOn sheetD) 0, Close 2 ∷ [], TurnedDown Incoherent ∷ [])
+    ∷ (shut (firstOn sheetD) 0, Close 0 ∷ [], TurnedDown Incoherent ∷ [])
+    ∷ (hold (firstOn sheetD) 0, Finish ∷ [], TurnedDown Incoherent ∷ [])
     ∷ []
 
 -- case A's report, exactly document 01's text
@@ -314,55 +321,8 @@ pub marked :
     (map (λ (c : Case). given (c .0) (c .1)) cases ≡ map (λ (c : Case). c .2) cases)
     × (map (λ (c : Brought). answersOf (c .0) (c .1)) brought ≡ map (λ (c : Brought). c .2) brought)
     × (map (λ (c : Report). report (runOf (c .0) (c .1))) reports ≡ map (λ (c : Report). c .2) reports)
-unfolding given answersOf tabulate anyBelow allBelow firstOf lowest hold settleAs shut breakRule named enforceable soundEvent soundRule bars makesWait forbids owes barred forbidden owing fatesIn anyDone doneIn doneInTurn holds ready mayDo doAll orderOf chosen toRefuse toDo settleOnce settleUpTo settle strains recordBroken doAlone decide submit lapse closeStep refuseHeld finish firstFault declaredOnly sameFates listed coherentEvent coherentRule coherent hasEvent callFault accept call ruleOf addEvent addRule addEvents declare recordFault ending readFrom readPlan readSheet stateAfter countBelow decodeFrom decode turnedDown runOn runOf digits decimal historyLines report
+unfolding given answersOf tabulate anyBelow allBelow firstOf lowest hold settleAs shut breakRule named enforceable soundEvent soundRule bars makesWait forbids owes barred forbidden owing fatesIn anyDone doneIn doneInTurn holds ready mayDo doAll orderOf chosen toRefuse toDo settleOnce settleUpTo settle strains recordBroken doAlone decide submit lapse closeStep refuseHeld finish firstFault declaredOnly sameFates listedAs coherentEvent coherentRule coherent hasEvent callFault accept call ruleOf addEvent addRule addEvents declare recordFault ending readFrom readPlan sheetPlan readSheet after countBelow firstCall decodeUpTo decode turnedDown runOn runOf digits decimal historyLines report
 marked = (refl, refl, refl)
-
--- a target that is refused is owed no more; no list of calls comes to this
-abbrev pub targetRefused : State
-targetRefused = settleAs Refused (doAll emptyState (0 ∷ 1 ∷ [])) 2
-
-pub unowed : map (owes targetRefused) (Need 0 2 ∷ Conditional 0 1 2 ∷ []) ≡ false ∷ false ∷ []
-unfolding settleAs doAll owes
-unowed = refl
-
--- the faults' numbers
-pub numbers : map faultNumber (Cut ∷ BadKind ∷ Full ∷ BadStep ∷ BadAttributes ∷ BadNames ∷ Unenforceable ∷ Extra ∷ Unknown ∷ AlreadyClosed ∷ NotClosed ∷ Incoherent ∷ []) ≡ 1 ∷ 2 ∷ 3 ∷ 4 ∷ 5 ∷ 6 ∷ 7 ∷ 8 ∷ 9 ∷ 10 ∷ 11 ∷ 12 ∷ []
-numbers = refl
-
--- what a plan declares: steps and attributes of its events, and its rules
-abbrev pub declares : Plan → List (ℕ × ℕ) × List Rule
-declares p = (map (λ e. (e .step, e .attributes)) (take (eventCount p) (p .events)), map (λ r. r .rule) (take (ruleCount p) (p .rules)))
-
--- kind 6 has its attributes from table 1; rules keep their events' places
-pub declared : declares (firstOn (6 ∷ 3 ∷ 1 ∷ 7 ∷ 2 ∷ 2 ∷ 2 ∷ 0 ∷ 3 ∷ 0 ∷ 1 ∷ 4 ∷ 1 ∷ 4 ∷ 3 ∷ 5 ∷ []) .plan) ≡ ((3, 7) ∷ (3, 0) ∷ (3, 6) ∷ (3, 1) ∷ (7, 2) ∷ [], Order 2 0 ∷ Need 0 1 ∷ Conditional 1 4 3 ∷ [])
-unfolding named enforceable firstFault ruleOf addEvent addRule addEvents declare recordFault ending readFrom readPlan readSheet
-declared = refl
-
--- the state after case E, written down
-abbrev pub afterE : State
-afterE = breakRule (settleAs Done (settleAs Lapsed (shut (firstOn sheetD) 1) 1) 0) 0
-
--- what its readers answer: declared numbers, and undeclared ones; and an event past the limit of a count that is past it
-pub readings :
-    (map (fateRead afterE) (0 ∷ 1 ∷ 2 ∷ []) ≡ FateRead.Is Done ∷ FateRead.Is Lapsed ∷ FateRead.Undeclared ∷ [])
-    × (map (eventRead afterE) (1 ∷ 2 ∷ []) ≡ EventRead.Is (record { step = 1; attributes = 1 }) ∷ EventRead.Undeclared ∷ [])
-    × (map (ruleRead afterE) (0 ∷ 1 ∷ []) ≡ RuleRead.Is (Need 0 1) ∷ RuleRead.Undeclared ∷ [])
-    × (map (lineRead afterE) (0 ∷ 1 ∷ 2 ∷ []) ≡ EntryRead.Is (record { event = 1; fate = Lapsed }) ∷ EntryRead.Is (record { event = 0; fate = Done }) ∷ EntryRead.Undeclared ∷ [])
-    × (map (closedRead afterE) (0 ∷ 1 ∷ 7 ∷ 8 ∷ []) ≡ Mark.No ∷ Mark.Yes ∷ Mark.No ∷ Mark.Undeclared ∷ [])
-    × (map (brokenRead afterE) (0 ∷ 1 ∷ []) ≡ Mark.Yes ∷ Mark.Undeclared ∷ [])
-    × (map (fateRead (firstState (counting 17 0))) (15 ∷ 16 ∷ []) ≡ FateRead.Is Open ∷ FateRead.Undeclared ∷ [])
-unfolding shut settleAs breakRule named enforceable firstFault ruleOf addEvent addRule addEvents declare recordFault ending readFrom readPlan readSheet fateRead eventRead ruleRead lineRead closedRead brokenRead
-readings = (refl, refl, refl, refl, refl, refl, refl)
-
-abbrev pub read : List Call → Bool → Decoded
-read calls cut = record { calls = calls; cut = cut }
-
--- the call file: whole; cut at kinds 16 and 17; another kind ends the reading; 18 alone; none
-pub decoded :
-    map decode ((16 ∷ 3 ∷ 17 ∷ 16 ∷ 18 ∷ 16 ∷ 255 ∷ []) ∷ (18 ∷ 16 ∷ []) ∷ (18 ∷ 17 ∷ []) ∷ (18 ∷ 19 ∷ 18 ∷ []) ∷ (18 ∷ []) ∷ [] ∷ [])
-    ≡ read (submitting 3 ∷ closing 16 ∷ finishing ∷ submitting 255 ∷ []) false ∷ read (finishing ∷ []) true ∷ read (finishing ∷ []) true ∷ read (finishing ∷ []) true ∷ read (finishing ∷ []) false ∷ read [] false ∷ []
-unfolding decodeFrom decode
-decoded = refl
 
 -- 0, 7, 10, 65536
 pub decimals : map decimal (0 ∷ 7 ∷ 10 ∷ 65536 ∷ []) ≡ (48 ∷ []) ∷ (55 ∷ []) ∷ (49 ∷ 48 ∷ []) ∷ (54 ∷ 53 ∷ 53 ∷ 51 ∷ 54 ∷ []) ∷ []

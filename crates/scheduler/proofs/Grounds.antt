@@ -7,14 +7,17 @@ use mathlib.Core.Logic.{_⊎_, inl, inr}
 use mathlib.Core.Option.{Option, none, some}
 use mathlib.Core.Path.{_≡_, refl, sym, _∙_, ap, subst}
 use lib.Dec.{eqb}
-use Rattle.scheduler.specs.Prelude.{Open, Done, Refused, Lapsed, Plan, State, Fault, Reply}
-use Rattle.scheduler.specs.State.{eventCount, ruleCount, stepOf, rejectable, delayable, fateOf, isOpen, hold, settleAs, shut}
+use Rattle.scheduler.specs.Prelude.{Open, Done, Refused, Lapsed, Plan, State, CallFault, Reply, Call, Submit, Close, Finish}
+use Rattle.plan.specs.Plans.{eventCount, ruleCount, stepOf, rejectable, delayable}
+use Rattle.scheduler.specs.State.{fateOf, hold, settleAs, shut, Sized}
+use Rattle.plan.specs.Fates.{isOpen}
 use Rattle.scheduler.specs.Orders.{First, chosen, doAll}
 use Rattle.scheduler.specs.Calls.{refuses, does, Turns, stay, turn, settleOnce, settle, strains, breakIf, recordBroken, doAlone, decide, submit, lapse, closeStep, refuseHeld, finish}
-use Rattle.scheduler.specs.Faults.{Call, submitting, closing, finishing, callFault, accept, call}
-use Rattle.scheduler.specs.Demand.{by-bar, by-hand, by-end, Trail, end, held, ordered, alone, refused, shuts, lapsed, Sized, Grounded}
-use Rattle.scheduler.proofs.Tests.{and-left, and-right, either}
-use Rattle.scheduler.proofs.Laws.{open-is, plan-hold, fate-hold-same, sized-hold, sized-shut, sized-break, sized-settle}
+use Rattle.scheduler.specs.Answers.{callFault, accept, call}
+use Rattle.scheduler.specs.Grounds.{by-bar, by-submission, by-finish, Trail, end, held, ordered, alone, refused, shuts, lapsed, Grounded}
+use Rattle.plan.proofs.Tests.{and-left, and-right, either}
+use Rattle.plan.proofs.Fates.{open-is}
+use Rattle.scheduler.proofs.Laws.{plan-hold, fate-hold-same, sized-hold, sized-shut, sized-break, sized-settle}
 use Rattle.scheduler.proofs.Branches.{decide-order, decide-refuse, decide-alone, submit-same, submit-delayed, submit-decided, lapse-yes, lapse-no, lowestHeld, refuse-none, refuse-some, call-fault, call-accept}
 use Rattle.scheduler.proofs.Searching.{sized-doAll, run-declared, chosen-none, chosen-first}
 use Rattle.scheduler.proofs.Settling.{held-tested, lowest-some, once-none, settle-turns, settle-rest, sized-settling}
@@ -54,10 +57,10 @@ settle-trail c s z = turns-trail (settle-turns s z)
 
 -- an event that isn't delayable, just held: the order contains it, so it stands in the array and is held
 module _ (s : State) (e : ℕ) (z : Sized s) where
-  order-trail : (o : List ℕ) → First (hold s e) e o → Trail (submitting e) (hold s e) (doAll (hold s e) o)
+  order-trail : (o : List ℕ) → First (hold s e) e o → Trail (Submit e) (hold s e) (doAll (hold s e) o)
   order-trail o f = ordered e o (fate-hold-same s e z (run-declared (hold s e) o (f .viable .runs) e (f .viable .contains) .1)) f end
 
-  decide-trail : delayable (s .plan) e ≡ false → Trail (submitting e) (hold s e) (settle (decide (hold s e) e))
+  decide-trail : delayable (s .plan) e ≡ false → Trail (Submit e) (hold s e) (settle (decide (hold s e) e))
   decide-trail d = go (chosen t e) refl (either (rejectable (t .plan) e))
     where
       t : State
@@ -66,31 +69,31 @@ module _ (s : State) (e : ℕ) (z : Sized s) where
       sized : Sized t
       sized = sized-hold s e z
 
-      at : (u : State) → decide t e ≡ u → Sized u → Trail (submitting e) t u → Trail (submitting e) t (settle (decide t e))
-      at u q y r = subst (λ v. Trail (submitting e) t (settle v)) (sym q) (then r (settle-trail (submitting e) u y))
+      at : (u : State) → decide t e ≡ u → Sized u → Trail (Submit e) t u → Trail (Submit e) t (settle (decide t e))
+      at u q y r = subst (λ v. Trail (Submit e) t (settle v)) (sym q) (then r (settle-trail (Submit e) u y))
 
       waits : delayable (t .plan) e ≡ false
       waits = ap (λ (p : Plan). delayable p e) (plan-hold s e) ∙ d
 
-      go : (q : Option (List ℕ)) → chosen t e ≡ q → (rejectable (t .plan) e ≡ true) ⊎ (rejectable (t .plan) e ≡ false) → Trail (submitting e) t (settle (decide t e))
+      go : (q : Option (List ℕ)) → chosen t e ≡ q → (rejectable (t .plan) e ≡ true) ⊎ (rejectable (t .plan) e ≡ false) → Trail (Submit e) t (settle (decide t e))
       go (some o) h r = at (doAll t o) (decide-order t e o h) (sized-doAll t o sized) (order-trail o (chosen-first t e sized o h))
-      go none h (inl r) = at (settleAs Refused t e) (decide-refuse t e h r) (sized-settle Refused t e sized) (refused e (by-hand refl waits r (chosen-none t e h)) end)
+      go none h (inl r) = at (settleAs Refused t e) (decide-refuse t e h r) (sized-settle Refused t e sized) (refused e (by-submission refl waits r (chosen-none t e h)) end)
       go none h (inr r) = at (doAlone t e) (decide-alone t e h r) (sized-alone t e sized) (alone e refl waits r (chosen-none t e h) end)
 
 -- hand in
-submit-trail : (s : State) (e : ℕ) → Sized s → Trail (submitting e) s (submit s e)
+submit-trail : (s : State) (e : ℕ) → Sized s → Trail (Submit e) s (submit s e)
 submit-trail s e z = elim (either (isOpen (fateOf s e))) [
-  | inr shut ↦ subst (Trail (submitting e) s) (sym (submit-same s e shut)) end
+  | inr shut ↦ subst (Trail (Submit e) s) (sym (submit-same s e shut)) end
   | inl is-open ↦
       let h : fateOf s e ≡ Open = open-is (fateOf s e) is-open in
       elim (either (delayable (s .plan) e)) [
-        | inl d ↦ subst (Trail (submitting e) s) (sym (submit-delayed s e is-open d)) (held e refl h (settle-trail (submitting e) (hold s e) (sized-hold s e z)))
-        | inr d ↦ subst (Trail (submitting e) s) (sym (submit-decided s e is-open d)) (held e refl h (decide-trail s e z d))
+        | inl d ↦ subst (Trail (Submit e) s) (sym (submit-delayed s e is-open d)) (held e refl h (settle-trail (Submit e) (hold s e) (sized-hold s e z)))
+        | inr d ↦ subst (Trail (Submit e) s) (sym (submit-decided s e is-open d)) (held e refl h (decide-trail s e z d))
       ]
 ]
 
 -- closing a step
-lapse-trail : (n e : ℕ) (s : State) (k : ℕ) → Sized s → Trail (closing k) s (lapse n e s k) × Sized (lapse n e s k)
+lapse-trail : (n e : ℕ) (s : State) (k : ℕ) → Sized s → Trail (Close k) s (lapse n e s k) × Sized (lapse n e s k)
 unfolding lapse
 lapse-trail zero e s k z = (end, z)
 lapse-trail (suc n) e s k z = elim (either (isOpen (fateOf s e) && eqb (stepOf (s .plan) e) k)) [
@@ -98,43 +101,43 @@ lapse-trail (suc n) e s k z = elim (either (isOpen (fateOf s e) && eqb (stepOf (
       let r = lapse-trail n (suc e) (settleAs Lapsed s e) k (sized-settle Lapsed s e z) in
       let step : stepOf (s .plan) e ≡ k = eqb-true (stepOf (s .plan) e) k (and-right (isOpen (fateOf s e)) (eqb (stepOf (s .plan) e) k) t) in
       let is-open : fateOf s e ≡ Open = open-is (fateOf s e) (and-left (isOpen (fateOf s e)) (eqb (stepOf (s .plan) e) k) t) in
-      subst (λ t. Trail (closing k) s t × Sized t) (sym (lapse-yes n e s k t)) (lapsed e (ap closing (sym step)) is-open (r .0), r .1)
-  | inr t ↦ subst (λ t. Trail (closing k) s t × Sized t) (sym (lapse-no n e s k t)) (lapse-trail n (suc e) s k z)
+      subst (λ t. Trail (Close k) s t × Sized t) (sym (lapse-yes n e s k t)) (lapsed e (ap Close (sym step)) is-open (r .0), r .1)
+  | inr t ↦ subst (λ t. Trail (Close k) s t × Sized t) (sym (lapse-no n e s k t)) (lapse-trail n (suc e) s k z)
 ]
 
-close-trail : (s : State) (k : ℕ) → Sized s → Trail (closing k) s (closeStep s k)
+close-trail : (s : State) (k : ℕ) → Sized s → Trail (Close k) s (closeStep s k)
 unfolding closeStep
 close-trail s k z =
     let r = lapse-trail (eventCount (s .plan)) 0 (shut s k) k (sized-shut s k z) in
-    shuts k refl (then (r .0) (settle-trail (closing k) (lapse (eventCount (s .plan)) 0 (shut s k) k) (r .1)))
+    shuts k refl (then (r .0) (settle-trail (Close k) (lapse (eventCount (s .plan)) 0 (shut s k) k) (r .1)))
 
 -- winding up
-refuse-trail : (n : ℕ) (s : State) → Sized s → settleOnce s ≡ none → Trail finishing s (refuseHeld n s)
+refuse-trail : (n : ℕ) (s : State) → Sized s → settleOnce s ≡ none → Trail Finish s (refuseHeld n s)
 unfolding refuseHeld
 refuse-trail zero s z rest = end
 refuse-trail (suc n) s z rest = go (lowestHeld s) refl (refuse-trail n)
   where
-    go : (q : Option ℕ) → lowestHeld s ≡ q → ((t : State) → Sized t → settleOnce t ≡ none → Trail finishing t (refuseHeld n t)) → Trail finishing s (refuseHeld (suc n) s)
-    go none h rec = subst (Trail finishing s) (sym (refuse-none n s h)) end
+    go : (q : Option ℕ) → lowestHeld s ≡ q → ((t : State) → Sized t → settleOnce t ≡ none → Trail Finish t (refuseHeld n t)) → Trail Finish s (refuseHeld (suc n) s)
+    go none h rec = subst (Trail Finish s) (sym (refuse-none n s h)) end
     go (some e) h rec =
         let t = settleAs Refused s e in
         let z′ = sized-settle Refused s e z in
-        subst (Trail finishing s) (sym (refuse-some n s e h)) (refused e (by-end refl (lowest-some s (held-tested s) e h) (once-none s z rest)) (then (settle-trail finishing t z′) (rec (settle t) (sized-settling t z′) (settle-rest t z′))))
+        subst (Trail Finish s) (sym (refuse-some n s e h)) (refused e (by-finish refl (lowest-some s (held-tested s) e h) (once-none s z rest)) (then (settle-trail Finish t z′) (rec (settle t) (sized-settling t z′) (settle-rest t z′))))
 
-finish-trail : (s : State) → Sized s → Trail finishing s (finish s)
+finish-trail : (s : State) → Sized s → Trail Finish s (finish s)
 unfolding finish
-finish-trail s z = then (settle-trail finishing s z) (refuse-trail 16 (settle s) (sized-settling s z) (settle-rest s z))
+finish-trail s z = then (settle-trail Finish s z) (refuse-trail 16 (settle s) (sized-settling s z) (settle-rest s z))
 
 -- every call that is taken, and every call
 accept-trail : (s : State) (c : Call) → Sized s → Trail c s (accept s c .state)
 unfolding accept
-accept-trail s (submitting e) z = submit-trail s e z
-accept-trail s (closing k) z = close-trail s k z
-accept-trail s finishing z = finish-trail s z
+accept-trail s (Submit e) z = submit-trail s e z
+accept-trail s (Close k) z = close-trail s k z
+accept-trail s Finish z = finish-trail s z
 
 pub grounded : Grounded (λ s c. call s c .state)
 grounded s c z = go (callFault s c) refl
   where
-    go : (q : Option Fault) → callFault s c ≡ q → Trail c s (call s c .state)
+    go : (q : Option CallFault) → callFault s c ≡ q → Trail c s (call s c .state)
     go (some f) h = subst (λ (r : Reply). Trail c s (r .state)) (sym (call-fault s c f h)) end
     go none h = subst (λ (r : Reply). Trail c s (r .state)) (sym (call-accept s c h)) (accept-trail s c z)

@@ -3,61 +3,22 @@ use Prim.Native.Nat.{ℕ, _+_, _≤_, _<_}
 use native.Mathlib.Omega.{arith}
 use native.Mathlib.Decide.{ℕ-discrete, decLt}
 use native.Mathlib.Numerals.{add-one}
-use borrow.Author.Tests.{lt-ltb, le-ltb}
-use mathlib.Core.Bool.{Bool, true, false, cond}
-use mathlib.Core.List.{List, [], _∷_, _++_}
+use borrow.Author.Tests.{lt-ltb}
+use mathlib.Core.Bool.{true, false}
+use mathlib.Core.List.{[], _∷_, _++_}
 use mathlib.Core.Logic.{_≢_, _⊎_, inl, inr}
 use mathlib.Core.Path.{_≡_, refl, sym, _∙_, ap}
-use lib.Dec.{ltb}
-use lib.ListN.{length, getD, set, length-set}
-use lib.Seq.{getD-set-same, getD-set-other, take-suc-set}
-use Rattle.scheduler.specs.Prelude.{Fate, Open, Held, Done, Refused, Lapsed, Standing, State}
-use Rattle.scheduler.specs.Base.{readAt, storeAt}
-use Rattle.scheduler.specs.State.{blankStanding, blankEntry, fateOf, brokenAt, closedAt, lineCount, lines, isOpen, isHeld, hold, settleAs, shut, breakRule}
-use Rattle.scheduler.proofs.Tests.{clash}
-use Rattle.scheduler.specs.Demand.{Sized}
-
--- a fate as its test says it
-pub held-is : (x : Fate) → isHeld x ≡ true → x ≡ Held
-held-is Open h = absurd (clash h refl)
-held-is Held h = refl
-held-is Done h = absurd (clash h refl)
-held-is Refused h = absurd (clash h refl)
-held-is Lapsed h = absurd (clash h refl)
-
-pub open-is : (x : Fate) → isOpen x ≡ true → x ≡ Open
-open-is Open h = refl
-open-is Held h = absurd (clash h refl)
-open-is Done h = absurd (clash h refl)
-open-is Refused h = absurd (clash h refl)
-open-is Lapsed h = absurd (clash h refl)
-
--- an element of an array after a store
-module _ {A : Type 0} (n : ℕ) (l : List A) (i : ℕ) (a : A) where
-  pub length-store : length (storeAt n l i a) ≡ length l
-  length-store = go (ltb i n)
-    where
-      go : (t : Bool) → length (cond t (set l i a) l) ≡ length l
-      go true = length-set l i a
-      go false = refl
-
-  module _ (d : A) where
-    pub read-same : (i < length l) × (i < n) → readAt n (storeAt n l i a) i d ≡ a
-    read-same h = rw (lt-ltb i n (h .1), getD-set-same l i a d (h .0))
-
-    pub get-other : (j : ℕ) → j ≢ i → getD (storeAt n l i a) j d ≡ getD l j d
-    get-other j ne = go (ltb i n)
-      where
-        go : (t : Bool) → getD (cond t (set l i a) l) j d ≡ getD l j d
-        go true = getD-set-other l i j a d ne
-        go false = refl
-
-    pub read-other : (j : ℕ) → j ≢ i → readAt n (storeAt n l i a) j d ≡ readAt n l j d
-    read-other j ne = ap (λ x. cond (ltb j n) x d) (get-other j ne)
+use lib.ListN.{getD}
+use lib.Seq.{take-suc-set}
+use Rattle.scheduler.specs.Prelude.{Fate, Open, Held, Standing, State}
+use Rattle.plan.specs.Fates.{blankStanding}
+use Rattle.plan.specs.Histories.{blankEntry}
+use Rattle.scheduler.specs.State.{fateOf, brokenAt, closedAt, lineCount, lines, hold, settleAs, shut, breakRule, Sized}
+use Rattle.plan.proofs.Arrays.{read-past, read-other, get-other, length-store, read-same}
 
 -- past an array's end stands the blank
 pub fate-past : (s : State) (e : ℕ) → 16 ≤ e → fateOf s e ≡ Open
-fate-past s e ge = rw (le-ltb e 16 ge, fateOf)
+fate-past s e ge = ap (λ (v : Standing). v .fate) (read-past 16 (s .standings) e blankStanding ge)
 
 -- an event is settled
 module _ (x : Fate) (s : State) (e : ℕ) where

@@ -11,17 +11,19 @@ use mathlib.Core.Path.{_≡_, refl, sym, _∙_, ap, subst}
 use lib.Dec.{eqb}
 use lib.ListN.{length}
 use Rattle.scheduler.specs.Prelude.{Fate, Open, Held, Done, Refused, Lapsed, Event, Plan, State}
-use Rattle.scheduler.specs.State.{eventCount, eventAt, blankEvent, holdsBit, fateOf, forcible, isOpen, isHeld, isSettled, settleAs}
+use Rattle.plan.specs.Plans.{eventCount, eventAt, blankEvent, holdsBit, forcible}
+use Rattle.scheduler.specs.State.{fateOf, settleAs, Sized}
+use Rattle.plan.specs.Fates.{isOpen, isHeld, isSettled}
 use Rattle.scheduler.specs.Rules.{forbidden, owing}
-use Rattle.scheduler.specs.Orders.{ready, mayDo, doAll, Runs, Different, Viable, Ahead, First, orderOf, chosen, someOrder, hasViable}
-use Rattle.scheduler.specs.Demand.{Sized}
-use Rattle.scheduler.proofs.Tests.{or-right-true, or-either, and-left, and-right, and-both, either, clash, any-some, any-found, first-none, first-some, when-none, when-some, some-none}
+use Rattle.plan.specs.Rules.{ready}
+use Rattle.scheduler.specs.Orders.{mayDo, doAll, Runs, Different, Viable, Ahead, First, orderOf, chosen, someOrder, hasViable}
+use Rattle.plan.proofs.Tests.{or-right-true, or-either, and-left, and-right, and-both, either, clash, any-some, any-found, first-none, first-some, when-none, when-some, some-none}
 use Rattle.scheduler.proofs.Laws.{fate-past, plan-settle, fate-settle-same, fate-settle-either, sized-settle}
 
 -- an event that may be done is unsettled, and past the array there is none: the blank event is open and not forcible
 pub ready-unsettled : (s : State) (c : ℕ) → mayDo s c ≡ true → isSettled (fateOf s c) ≡ false
 unfolding mayDo ready
-ready-unsettled s c m = go (fateOf s c) (and-left (ready s c) (not (forbidden s c)) m)
+ready-unsettled s c m = go (fateOf s c) (and-left (ready (s .plan) (fateOf s) c) (not (forbidden s c)) m)
   where
     go : (x : Fate) → (isHeld x || (isOpen x && forcible (s .plan) c)) ≡ true → isSettled x ≡ false
     go Open m = refl
@@ -40,7 +42,7 @@ ready-bound s c m = elim (decLt c 16) [
   | no ge ↦
       let is-open : fateOf s c ≡ Open = fate-past s c (omega arith) in
       let unforced : forcible (s .plan) c ≡ false = ap (λ (v : Event). holdsBit 1 (v .attributes)) (event-past (s .plan) c (omega arith)) in
-      absurd (clash (and-left (ready s c) (not (forbidden s c)) m) (ap (λ (x : Fate). isHeld x || (isOpen x && forcible (s .plan) c)) is-open ∙ unforced))
+      absurd (clash (and-left (ready (s .plan) (fateOf s) c) (not (forbidden s c)) m) (ap (λ (x : Fate). isHeld x || (isOpen x && forcible (s .plan) c)) is-open ∙ unforced))
 ]
 
 -- doing an order keeps the plan and the lengths

@@ -8,14 +8,16 @@ use mathlib.Core.Option.{Option, none, some, Option·map}
 use mathlib.Core.Path.{_≡_, refl, sym, _∙_, ap, subst}
 use lib.ListN.{length}
 use Rattle.scheduler.specs.Prelude.{Fate, Held, Done, Refused, State}
-use Rattle.scheduler.specs.Base.{countBelow, when, lowest}
-use Rattle.scheduler.specs.State.{eventCount, fateOf, isHeld, isSettled, settleAs}
+use Rattle.plan.specs.Base.{countBelow, when, lowest}
+use Rattle.plan.specs.Plans.{eventCount}
+use Rattle.scheduler.specs.State.{fateOf, settleAs, Sized}
+use Rattle.plan.specs.Fates.{isHeld, isSettled}
 use Rattle.scheduler.specs.Rules.{barred}
 use Rattle.scheduler.specs.Orders.{Runs, Viable, First, chosen, doAll}
 use Rattle.scheduler.specs.Calls.{Lowest, IsHeld, HeldBarred, HeldViable, Turn, refuses, does, Turns, stay, turn, Settles, toRefuse, toDo, settleOnce, settleUpTo, settle, refuseHeld, finish, Refusing, nothing-held, refuse-next, Finishes}
-use Rattle.scheduler.specs.Demand.{Sized}
-use Rattle.scheduler.proofs.Tests.{and-left, and-right, and-both, clash, first-none, first-some, when-none, when-some, some-none, count-le, count-more}
-use Rattle.scheduler.proofs.Laws.{held-is, fate-past, plan-settle, fate-settle-same, fate-settle-other, sized-settle}
+use Rattle.plan.proofs.Tests.{and-left, and-right, and-both, clash, first-none, first-some, when-none, when-some, some-none, count-le, count-more}
+use Rattle.plan.proofs.Fates.{held-is}
+use Rattle.scheduler.proofs.Laws.{fate-past, plan-settle, fate-settle-same, fate-settle-other, sized-settle}
 use Rattle.scheduler.proofs.Branches.{upTo-none, upTo-some, lowestHeld, refuse-none, refuse-some}
 use Rattle.scheduler.proofs.Searching.{ready-unsettled, ready-bound, plan-doAll, sized-doAll, run-declared, mem-long, chosen-none, chosen-first, first-chosen}
 

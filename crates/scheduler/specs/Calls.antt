@@ -1,8 +1,11 @@
 -- The calls: settling, hand in, close a step, wind up.
 use Rattle.scheduler.specs.Prelude.{ℕ, zero, suc, _<_, Bool, true, false, _&&_, _||_, List, Option, none, some, Option·map, _≡_, eqb, Held, Done, Refused, Lapsed, State}
-use Rattle.scheduler.specs.Base.{firstOf, when, lowest}
-use Rattle.scheduler.specs.State.{eventCount, ruleCount, stepOf, ruleAt, rejectable, delayable, fateOf, isOpen, isHeld, hold, settleAs, shut, breakRule}
-use Rattle.scheduler.specs.Rules.{stands, forbids, owes, barred}
+use Rattle.plan.specs.Base.{firstOf, when, lowest}
+use Rattle.plan.specs.Fates.{isOpen, isHeld}
+use Rattle.plan.specs.Plans.{eventCount, ruleCount, stepOf, ruleAt, rejectable, delayable}
+use Rattle.plan.specs.Rules.{forbids, owes}
+use Rattle.scheduler.specs.State.{fateOf, hold, settleAs, shut, breakRule}
+use Rattle.scheduler.specs.Rules.{stands, barred}
 use Rattle.scheduler.specs.Orders.{Viable, First, chosen, doAll}
 
 -- e is the lowest-numbered declared event of which P holds
@@ -24,7 +27,11 @@ HeldViable s e = (fateOf s e ≡ Held) × (o : List ℕ) × Viable s e o
 -- lowest-numbered held event that has a viable order."
 pub data Turn (s : State) : State → Type 0 where
   refuses : (e : ℕ) → Lowest s (HeldBarred s) e → Turn s (settleAs Refused s e)
-  does : (e : ℕ) (o : List ℕ) → ((d : ℕ) → d < eventCount (s .plan) → HeldBarred s d → ⊥) → Lowest s (HeldViable s) e → First s e o → Turn s (doAll s o)
+  does : (e : ℕ) (o : List ℕ)
+      → ((d : ℕ) → d < eventCount (s .plan) → HeldBarred s d → ⊥)
+      → Lowest s (HeldViable s) e
+      → First s e o
+      → Turn s (doAll s o)
 
 -- turns one after another
 pub data Turns : State → State → Type 0 where
@@ -44,7 +51,10 @@ unfoldable pub toDo : State → Option (List ℕ)
 toDo s = firstOf (eventCount (s .plan)) 0 (λ e. let order = chosen s e in when (isHeld (fateOf s e)) order)
 
 unfoldable pub settleOnce : State → Option State
-settleOnce s = elim (toRefuse s) [ some e ↦ some (settleAs Refused s e) | none ↦ Option·map (doAll s) (toDo s) ]
+settleOnce s = elim (toRefuse s) [
+  | some e ↦ some (settleAs Refused s e)
+  | none ↦ Option·map (doAll s) (toDo s)
+]
 
 unfoldable pub settleUpTo : ℕ → State → State
 settleUpTo zero s = s
@@ -56,7 +66,10 @@ settle s = settleUpTo 16 s
 
 -- rule i, not recorded as broken, forbids doing e in s or owes right after it
 unfoldable pub strains : State → ℕ → ℕ → Bool
-strains s e i = stands s i && (forbids s (ruleAt (s .plan) i) e || owes (settleAs Done s e) (ruleAt (s .plan) i))
+strains s e i =
+    stands s i
+    && (forbids (s .plan) (fateOf s) (ruleAt (s .plan) i) e
+    || owes (s .plan) (fateOf (settleAs Done s e)) (ruleAt (s .plan) i))
 
 abbrev pub breakIf : Bool → State → ℕ → State
 breakIf true s i = breakRule s i
@@ -71,18 +84,29 @@ recordBroken (suc n) s e t = breakIf (strains s e n) (recordBroken n s e t) n
 unfoldable pub doAlone : State → ℕ → State
 doAlone s e = recordBroken (ruleCount (s .plan)) s e (settleAs Done s e)
 
--- an event that isn't delayable, held in s: "do its chosen order where there is one; else refuse it if it is rejectable; else do it alone"
+-- an event that isn't delayable, held in s:
+-- "do its chosen order where there is one; else refuse it if it is rejectable; else do it alone"
 unfoldable pub decide : State → ℕ → State
-decide s e = elim (chosen s e) [ some o ↦ doAll s o | none ↦ elim (rejectable (s .plan) e) [ true ↦ settleAs Refused s e | false ↦ doAlone s e ] ]
+decide s e = elim (chosen s e) [
+  | some o ↦ doAll s o
+  | none ↦ elim (rejectable (s .plan) e) [ true ↦ settleAs Refused s e | false ↦ doAlone s e ]
+]
 
--- Hand in. "An event that isn't open: its fate is the answer and nothing changes. An open one becomes held. If it is delayable, settle. If not: [decide it]. Then settle."
+-- Hand in. "An event that isn't open: its fate is the answer and nothing changes. An open one becomes held.
+-- If it is delayable, settle. If not: [decide it]. Then settle."
 unfoldable pub submit : State → ℕ → State
-submit s e = elim (isOpen (fateOf s e)) [ false ↦ s | true ↦ elim (delayable (s .plan) e) [ true ↦ settle (hold s e) | false ↦ settle (decide (hold s e) e) ] ]
+submit s e = elim (isOpen (fateOf s e)) [
+  | false ↦ s
+  | true ↦ elim (delayable (s .plan) e) [ true ↦ settle (hold s e) | false ↦ settle (decide (hold s e) e) ]
+]
 
 -- of n events from e on, the open ones of step k lapse, lowest first
 unfoldable pub lapse : ℕ → ℕ → State → ℕ → State
 lapse zero e s k = s
-lapse (suc n) e s k = elim (isOpen (fateOf s e) && eqb (stepOf (s .plan) e) k) [ true ↦ lapse n (suc e) (settleAs Lapsed s e) k | false ↦ lapse n (suc e) s k ]
+lapse (suc n) e s k = elim (isOpen (fateOf s e) && eqb (stepOf (s .plan) e) k) [
+  | true ↦ lapse n (suc e) (settleAs Lapsed s e) k
+  | false ↦ lapse n (suc e) s k
+]
 
 -- Close a step. "Its open events lapse, lowest first; held ones stay. Then settle."
 unfoldable pub closeStep : State → ℕ → State
@@ -91,16 +115,24 @@ closeStep s k = settle (lapse (eventCount (s .plan)) 0 (shut s k) k)
 -- "while any event is held, refuse the lowest held one and settle": at most n times
 unfoldable pub refuseHeld : ℕ → State → State
 refuseHeld zero s = s
-refuseHeld (suc n) s = elim (lowest (eventCount (s .plan)) (λ e. isHeld (fateOf s e))) [ none ↦ s | some e ↦ refuseHeld n (settle (settleAs Refused s e)) ]
+refuseHeld (suc n) s = elim (lowest (eventCount (s .plan)) (λ e. isHeld (fateOf s e))) [
+  | none ↦ s
+  | some e ↦ refuseHeld n (settle (settleAs Refused s e))
+]
 
--- Wind up. "settle; then, while any event is held, refuse the lowest held one and settle." Each time settles an event, and there are at most 16
+-- Wind up. "settle; then, while any event is held, refuse the lowest held one and settle." Each time settles an event, and there are
+-- at most 16
 unfoldable pub finish : State → State
 finish s = refuseHeld 16 (settle s)
 
 -- the same as a relation
 pub data Refusing : State → State → Type 0 where
   nothing-held : {s : State} → ((e : ℕ) → e < eventCount (s .plan) → IsHeld s e → ⊥) → Refusing s s
-  refuse-next : {s t u : State} (e : ℕ) → Lowest s (IsHeld s) e → Settles (settleAs Refused s e) t → Refusing t u → Refusing s u
+  refuse-next : {s t u : State} (e : ℕ)
+      → Lowest s (IsHeld s) e
+      → Settles (settleAs Refused s e) t
+      → Refusing t u
+      → Refusing s u
 
 pub record Finishes (s t : State) : Type 0 where
   pub between : State

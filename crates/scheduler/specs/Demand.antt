@@ -1,22 +1,16 @@
--- Demand 3, and demand 2's grounds, of any scheduler. Demand 3's words are read off the plan, the calls and the history after each call: they cite the rules and `Viable`,
--- and neither the search nor the calls of Orders.antt and Calls.antt.
-use Rattle.scheduler.specs.Prelude.{ℕ, _≤_, _<_, Bool, true, false, not, _&&_, _||_, List, [], _∷_, _++_, _≡_, eqb, ltb, length, getD, drop, Fate, Open, Held, Done, Refused, Lapsed, Rule, Order, Need, Conditional, Plan, Entry, State}
-use Rattle.scheduler.specs.Base.{allBelow, thoseBelow, among, tabulate}
-use Rattle.scheduler.specs.State.{eventCount, ruleCount, stepOf, ruleAt, rejectable, delayable, fateOf, lines, blankEntry, brokenAt, isOpen, isDone, isSettled, hold, settleAs, shut}
-use Rattle.scheduler.specs.Rules.{fatesIn, holds, forbids, owes, barred}
-use Rattle.scheduler.specs.Orders.{Viable, First, hasViable, doAll}
-use Rattle.scheduler.specs.Calls.{Lowest, IsHeld, Turn, doAlone}
-use Rattle.scheduler.specs.Faults.{Call, submitting, closing, finishing, hasEvent, coherent, call}
+-- Demand 3, of any scheduler. Its words are read off the plan, the calls and the history after each call: they cite the rules and
+-- `Viable`, and neither the search nor the calls of Orders.antt and Calls.antt.
+use Rattle.scheduler.specs.Prelude.{ℕ, _≤_, _<_, Bool, true, false, not, _&&_, _||_, List, [], _∷_, _++_, _≡_, eqb, ltb, length, getD, drop, Fate, Open, Held, Done, Rule, Order, Need, Conditional, Plan, Entry, State, Call, Submit, Close, Finish}
+use Rattle.plan.specs.Base.{allBelow, thoseBelow, among, tabulate}
+use Rattle.plan.specs.Fates.{isOpen, isDone, isSettled}
+use Rattle.plan.specs.Plans.{eventCount, ruleCount, ruleAt, rejectable, hasEvent}
+use Rattle.plan.specs.Rules.{forbids, owes}
+use Rattle.plan.specs.Histories.{blankEntry, fatesIn, holds}
+use Rattle.scheduler.specs.State.{fateOf, brokenAt, lines, hold, settleAs}
+use Rattle.scheduler.specs.Orders.{Viable, hasViable}
+use Rattle.scheduler.specs.Coherent.{coherent}
 use Rattle.scheduler.specs.Sheet.{readSheet, admitted}
-
--- whatever makes a state out of a state and a call
-abbrev pub Scheduler : Type 0
-Scheduler = State → Call → State
-
--- "The first call gets the first state, each later one the state that the call before it gave, turned down or not"
-unfoldable pub after : Scheduler → State → List Call → State
-after step s [] = s
-after step s (c ∷ cs) = after step (step s c) cs
+use Rattle.scheduler.specs.Lists.{Scheduler, after}
 
 -- a list's story: each call with the history after it
 abbrev pub Story : Type 0
@@ -28,22 +22,52 @@ seen step s (c ∷ cs) = (c, lines (step s c)) ∷ seen step (step s c) cs
 
 -- what a story shows so far
 pub record Observed : Type 0 where
-  pub submitted : List ℕ  -- events that accepted calls handed in
-  pub closedSteps : List ℕ  -- steps that accepted closings named
-  pub finished : Bool  -- a winding up was accepted
+  pub calls : List Call  -- the accepted calls, the latest first
   pub recorded : List ℕ  -- rules recorded as broken
   pub history : List Entry  -- the history after the last call
 
 abbrev pub nothingYet : Observed
-nothingYet = record { submitted = []; closedSteps = []; finished = false; recorded = []; history = [] }
+nothingYet = record { calls = []; recorded = []; history = [] }
+
+-- the call hands in e; closes step k; winds up
+abbrev pub submits : ℕ → Call → Bool
+submits e (Submit d) = eqb e d
+submits e (Close k) = false
+submits e Finish = false
+
+abbrev pub closes : ℕ → Call → Bool
+closes k (Submit e) = false
+closes k (Close j) = eqb k j
+closes k Finish = false
+
+abbrev pub isFinish : Call → Bool
+isFinish (Submit e) = false
+isFinish (Close k) = false
+isFinish Finish = true
+
+-- some call passes the test
+unfoldable pub anyCall : (Call → Bool) → List Call → Bool
+anyCall t [] = false
+anyCall t (c ∷ cs) = t c || anyCall t cs
+
+-- an accepted call handed e in; "an accepted closing so far named the step"; a winding up was accepted
+abbrev pub wasSubmitted : Observed → ℕ → Bool
+wasSubmitted o e = anyCall (submits e) (o .calls)
+
+abbrev pub wasClosed : Observed → ℕ → Bool
+wasClosed o k = anyCall (closes k) (o .calls)
+
+abbrev pub wasFinished : Observed → Bool
+wasFinished o = anyCall isFinish (o .calls)
 
 abbrev pub waitsAs : Bool → Fate
 waitsAs true = Held
 waitsAs false = Open
 
--- "Settled: the event stands in the history. Held: an accepted call of the list handed it in and it is not settled. Open: declared, and neither of these."
+-- "Settled: the event stands in the history. Held: an accepted call of the list handed it in and it is not settled. Open: declared, and
+-- neither of these."
 unfoldable pub observedFate : Observed → ℕ → Fate
-observedFate o e = elim (fatesIn (o .history) e) [ x ∷ xs ↦ x | [] ↦ waitsAs (among e (o .submitted)) ]
+observedFate o e = elim (fatesIn (o .history) e) [ x ∷ xs ↦ x | [] ↦ waitsAs (wasSubmitted o e) ]
 
 -- the state that shows this
 unfoldable pub stateOf : Plan → Observed → State
@@ -51,16 +75,16 @@ stateOf p o = record {
   plan = p;
   standings = tabulate 16 0 (λ e. record { fate = observedFate o e });
   broken = tabulate 16 0 (λ i. among i (o .recorded));
-  closed = tabulate 8 0 (λ k. among k (o .closedSteps));
+  closed = tabulate 8 0 (λ k. wasClosed o k);
   history = tabulate 16 0 (λ n. getD (o .history) n blankEntry);
   «history_len» = length (o .history);
 }
 
--- "Accepted: no row of the table below applies to the call. Number 12 never applies in a list." "Closed: an accepted closing so far named the step."
+-- "Accepted: no row of the table below applies to the call. Number 12 never applies in a list."
 unfoldable pub accepted : Plan → Observed → Call → Bool
-accepted p o (submitting e) = ltb e (eventCount p)
-accepted p o (closing k) = hasEvent p k && not (among k (o .closedSteps))
-accepted p o finishing = allBelow 8 (λ k. not (hasEvent p k) || among k (o .closedSteps))
+accepted p o (Submit e) = ltb e (eventCount p)
+accepted p o (Close k) = hasEvent p k && not (wasClosed o k)
+accepted p o Finish = allBelow 8 (λ k. not (hasEvent p k) || wasClosed o k)
 
 -- the first of the lines says that e was done
 unfoldable pub startsDone : List Entry → ℕ → Bool
@@ -69,25 +93,35 @@ startsDone (l ∷ ls) e = eqb (l .event) e && isDone (l .fate)
 
 -- the hand-in of e after which the history is h did e alone: e was open, had no viable order, and its being done is the first new line
 unfoldable pub doneAlone : Plan → Observed → ℕ → List Entry → Bool
-doneAlone p o e h = isOpen (observedFate o e) && startsDone (drop (length (o .history)) h) e && not (hasViable (hold (stateOf p o) e) e)
+doneAlone p o e h =
+    isOpen (observedFate o e)
+    && startsDone (drop (length (o .history)) h) e
+    && not (hasViable (hold (stateOf p o) e) e)
 
 -- "the rule forbade it or owed right after it"
 unfoldable pub against : Plan → State → ℕ → ℕ → Bool
-against p s e i = not (brokenAt s i) && (forbids s (ruleAt p i) e || owes (settleAs Done s e) (ruleAt p i))
+against p s e i =
+    not (brokenAt s i)
+    && (forbids p (fateOf s) (ruleAt p i) e || owes p (fateOf (settleAs Done s e)) (ruleAt p i))
 
 -- "Recorded as broken: in a hand-in of the list an event was done alone although the rule forbade it or owed right after it."
 unfoldable pub newlyRecorded : Plan → Observed → ℕ → List Entry → List ℕ
-newlyRecorded p o e h = elim (doneAlone p o e h) [ true ↦ thoseBelow (ruleCount p) (against p (hold (stateOf p o) e) e) | false ↦ [] ]
+newlyRecorded p o e h = elim (doneAlone p o e h) [
+  | true ↦ thoseBelow (ruleCount p) (against p (hold (stateOf p o) e) e)
+  | false ↦ []
+]
 
--- what an accepted call shows, with the history after it
+abbrev pub recordedBy : Plan → Observed → Call → List Entry → List ℕ
+recordedBy p o (Submit e) h = newlyRecorded p o e h
+recordedBy p o (Close k) h = []
+recordedBy p o Finish h = []
+
+-- what an accepted call shows, with the history after it; a call turned down shows its history alone
 abbrev pub shows : Plan → Observed → Call → List Entry → Observed
-shows p o (submitting e) h = record { submitted = e ∷ o .submitted; closedSteps = o .closedSteps; finished = o .finished; recorded = newlyRecorded p o e h ++ o .recorded; history = h }
-shows p o (closing k) h = record { submitted = o .submitted; closedSteps = k ∷ o .closedSteps; finished = o .finished; recorded = o .recorded; history = h }
-shows p o finishing h = record { submitted = o .submitted; closedSteps = o .closedSteps; finished = true; recorded = o .recorded; history = h }
+shows p o c h = record { calls = c ∷ o .calls; recorded = recordedBy p o c h ++ o .recorded; history = h }
 
--- a call turned down shows its history alone
 abbrev pub onlyHistory : Observed → List Entry → Observed
-onlyHistory o h = record { submitted = o .submitted; closedSteps = o .closedSteps; finished = o .finished; recorded = o .recorded; history = h }
+onlyHistory o h = record { calls = o .calls; recorded = o .recorded; history = h }
 
 unfoldable pub observe : Plan → Observed → Call → List Entry → Observed
 observe p o c h = elim (accepted p o c) [ true ↦ shows p o c h | false ↦ onlyHistory o h ]
@@ -100,7 +134,8 @@ observeAll p o (x ∷ xs) = observeAll p (observe p o (x .0) (x .1)) xs
 unfoldable pub broken : Plan → Observed → ℕ → Bool
 broken p o i = among i (o .recorded) || not (holds (o .history) (ruleAt p i))
 
--- an order rule, or a rule whose triggers are all rejectable. "A need's trigger is a; a conditional's are a and b." "An event can be refused if it is rejectable."
+-- an order rule, or a rule whose triggers are all rejectable. "A need's trigger is a; a conditional's are a and b." "An event can be
+-- refused if it is rejectable."
 unfoldable pub unbreakable : Plan → Rule → Bool
 unbreakable p (Order a b) = true
 unbreakable p (Need a b) = rejectable p a
@@ -117,7 +152,7 @@ pub record Holds (p : Plan) (o : Observed) (end : State) : Type 0 where
   -- no held event with a viable order
   pub waiting : (e : ℕ) (q : List ℕ) → observedFate o e ≡ Held → Viable (stateOf p o) e q → ⊥
   -- nothing unsettled after an accepted winding up
-  pub settled : o .finished ≡ true → (e : ℕ) → e < eventCount p → isSettled (observedFate o e) ≡ true
+  pub settled : wasFinished o ≡ true → (e : ℕ) → e < eventCount p → isSettled (observedFate o e) ≡ true
   -- "the state after the list must show the same fates, closed steps and recorded rules"
   pub shown : end ≡ stateOf p o
   -- number 12 does not apply to it
@@ -139,40 +174,6 @@ pub record Demand3 (p : Plan) (story : Story) (end : State) : Type 0 where
 
 -- every admitted sheet, every list
 abbrev pub Keeps : Scheduler → Type 0
-Keeps step = (bytes : List ℕ) (s : State) (cs : List Call) → readSheet bytes ≡ admitted s → Demand3 (s .plan) (seen step s cs) (after step s cs)
-
--- the scheduler of document 01
-abbrev pub scheduler : Scheduler
-scheduler s c = call s c .state
-
--- Demand 2's grounds: the writes of a call, one after another, each with its ground. "Nothing else refuses an event."
-abbrev pub NoViable : State → ℕ → Type 0
-NoViable s e = (o : List ℕ) → Viable s e o → ⊥
-
--- why call c may refuse e in s: it is held and barred; or it was handed in by c, is rejectable and not delayable, and has no viable order;
--- or c winds up, settling has come to its end, and e is the lowest held event
-pub data Ground (c : Call) (s : State) (e : ℕ) : Type 0 where
-  by-bar : fateOf s e ≡ Held → barred s e ≡ true → Ground c s e
-  by-hand : c ≡ submitting e → delayable (s .plan) e ≡ false → rejectable (s .plan) e ≡ true → NoViable s e → Ground c s e
-  by-end : c ≡ finishing → Lowest s (IsHeld s) e → ((u : State) → Turn s u → ⊥) → Ground c s e
-
--- what call c does, write by write
-pub data Trail (c : Call) : State → State → Type 0 where
-  end : {s : State} → Trail c s s
-  held : {s t : State} (e : ℕ) → c ≡ submitting e → fateOf s e ≡ Open → Trail c (hold s e) t → Trail c s t
-  ordered : {s t : State} (e : ℕ) (o : List ℕ) → fateOf s e ≡ Held → First s e o → Trail c (doAll s o) t → Trail c s t
-  alone : {s t : State} (e : ℕ) → c ≡ submitting e → delayable (s .plan) e ≡ false → rejectable (s .plan) e ≡ false → NoViable s e → Trail c (doAlone s e) t → Trail c s t
-  refused : {s t : State} (e : ℕ) → Ground c s e → Trail c (settleAs Refused s e) t → Trail c s t
-  shuts : {s t : State} (k : ℕ) → c ≡ closing k → Trail c (shut s k) t → Trail c s t
-  lapsed : {s t : State} (e : ℕ) → c ≡ closing (stepOf (s .plan) e) → fateOf s e ≡ Open → Trail c (settleAs Lapsed s e) t → Trail c s t
-
--- the arrays have their lengths, as in every state that code can hold
-pub record Sized (s : State) : Type 0 where
-  pub standings-len : length (s .standings) ≡ 16
-  pub broken-len : length (s .broken) ≡ 16
-  pub closed-len : length (s .closed) ≡ 8
-  pub history-len : length (s .history) ≡ 16
-
--- every call of a scheduler is such a trail
-abbrev pub Grounded : Scheduler → Type 0
-Grounded step = (s : State) (c : Call) → Sized s → Trail c s (step s c)
+Keeps step = (bytes : List ℕ) (s : State) (cs : List Call)
+    → readSheet bytes ≡ admitted s
+    → Demand3 (s .plan) (seen step s cs) (after step s cs)

@@ -1,62 +1,46 @@
--- The call file, the run of a list, and the report.
-use Rattle.scheduler.specs.Prelude.{ℕ, zero, suc, _+_, _/_, _%_, Bool, true, false, List, [], _∷_, _++_, eqb, ltb, Fate, Open, Held, Done, Refused, Lapsed, Entry, State, Admitted, Faulty, Reading, Outcome}
-use Rattle.scheduler.specs.Base.{oneIf}
-use Rattle.scheduler.specs.State.{eventCount, ruleCount, lines}
-use Rattle.scheduler.specs.Readers.{heldCount, brokenCount}
-use Rattle.scheduler.specs.Faults.{Call, submitting, closing, finishing, faultNumber, isTurnedDown, call}
+-- The run of a list on a sheet, and the report.
+use Rattle.scheduler.specs.Prelude.{ℕ, zero, suc, _+_, _/_, _%_, true, false, List, [], _∷_, _++_, ltb, Fate, Open, Held, Done, Refused, Lapsed, Entry, State, Admitted, Faulty, Reading, Outcome}
+use Rattle.plan.specs.Base.{oneIf, countBelow}
+use Rattle.plan.specs.Fates.{isHeld}
+use Rattle.plan.specs.Plans.{eventCount, ruleCount}
+use Rattle.plan.specs.Faults.{sheetFaultNumber}
+use Rattle.plan.specs.Calls.{Decoded, decode}
+use Rattle.scheduler.specs.State.{fateOf, brokenAt, lines}
 use Rattle.scheduler.specs.Sheet.{readSheet}
+use Rattle.scheduler.specs.Lists.{scheduler, after, turnedDown}
 
--- the calls that a file lists, and whether its reading ended at another kind or a cut record
-pub record Decoded : Type 0 where
-  pub calls : List Call
-  pub cut : Bool
+-- the calls of a file on a state; "a cut record .. counts as one refused call"
+abbrev pub ranOn : State → Decoded → Outcome
+ranOn s d = record {
+  verdict = Admitted;
+  state = after scheduler s (d .calls);
+  refused = turnedDown s (d .calls) + oneIf (d .cut);
+}
 
-abbrev pub andThen : Call → Decoded → Decoded
-andThen c d = record { calls = c ∷ d .calls; cut = d .cut }
-
--- what the next byte is: a kind, or the number of a record of kind 16 or 17
-pub data Expected : Type 0 where
-  kind event step : Expected
-
--- "Call records: kind 16 with an event, kind 17 with a step, kind 18 alone. Another kind or a cut record ends the reading"
-unfoldable pub decodeFrom : Expected → List ℕ → Decoded
-decodeFrom kind [] = record { calls = []; cut = false }
-decodeFrom event [] = record { calls = []; cut = true }
-decodeFrom step [] = record { calls = []; cut = true }
-decodeFrom event (x ∷ b) = andThen (submitting x) (decodeFrom kind b)
-decodeFrom step (x ∷ b) = andThen (closing x) (decodeFrom kind b)
-decodeFrom kind (x ∷ b) = elim (eqb x 16) [
-  | true ↦ decodeFrom event b
-  | false ↦ elim (eqb x 17) [ true ↦ decodeFrom step b | false ↦ elim (eqb x 18) [ true ↦ andThen finishing (decodeFrom kind b) | false ↦ record { calls = []; cut = true } ] ]
-]
-
-unfoldable pub decode : List ℕ → Decoded
-decode b = decodeFrom kind b
-
--- the state after a list of calls: each gets the state that the one before gave
-unfoldable pub stateAfter : State → List Call → State
-stateAfter s [] = s
-stateAfter s (c ∷ cs) = stateAfter (call s c .state) cs
-
--- how many of them are turned down
-unfoldable pub turnedDown : State → List Call → ℕ
-turnedDown s [] = 0
-turnedDown s (c ∷ cs) = oneIf (isTurnedDown (call s c .answer)) + turnedDown (call s c .state) cs
-
--- the calls of a file on an admitted sheet's first state; "a cut record .. counts as one refused call". A sheet turned down: the empty state, and no call is made
+-- on an admitted sheet's first state. A sheet turned down: the empty state, and no call is made
 unfoldable pub runOn : Reading → Decoded → Outcome
 runOn r d = elim (r .verdict) [
-  | Admitted ↦ record { verdict = Admitted; state = stateAfter (r .state) (d .calls); refused = turnedDown (r .state) (d .calls) + oneIf (d .cut) }
+  | Admitted ↦ ranOn (r .state) d
   | Faulty f at ↦ record { verdict = Faulty f at; state = r .state; refused = 0 }
 ]
 
 unfoldable pub runOf : List ℕ → List ℕ → Outcome
 runOf sheet calls = runOn (readSheet sheet) (decode calls)
 
+-- "the events still held, the rules recorded broken", as counts
+abbrev pub heldCount : State → ℕ
+heldCount s = countBelow (eventCount (s .plan)) (λ e. isHeld (fateOf s e))
+
+abbrev pub brokenCount : State → ℕ
+brokenCount s = countBelow (ruleCount (s .plan)) (λ i. brokenAt s i)
+
 -- a number in decimal digits: at most n of them; `decimal` has enough
 unfoldable pub digits : ℕ → ℕ → List ℕ
 digits zero x = []
-digits (suc n) x = elim (ltb x 10) [ true ↦ (48 + x) ∷ [] | false ↦ digits n (x / 10) ++ ((48 + x % 10) ∷ []) ]
+digits (suc n) x = elim (ltb x 10) [
+  | true ↦ (48 + x) ∷ []
+  | false ↦ digits n (x / 10) ++ ((48 + x % 10) ∷ [])
+]
 
 unfoldable pub decimal : ℕ → List ℕ
 decimal x = digits (x + 1) x
@@ -97,7 +81,8 @@ unfoldable pub historyLines : List Entry → List ℕ
 historyLines [] = []
 historyLines (l ∷ ls) = line (decimal (l .event) ␣ fateWord (l .fate)) ++ historyLines ls
 
--- "Line 1 counts declarations; then one line for each history entry ..; then, as counts, the events still held, the rules recorded broken and the calls turned down."
+-- "Line 1 counts declarations; then one line for each history entry ..; then, as counts, the events still held, the rules recorded
+-- broken and the calls turned down."
 -- "For a sheet turned down it prints one line, such as `refused 7 at 6`."
 unfoldable pub report : Outcome → List ℕ
 report r = elim (r .verdict) [
@@ -107,5 +92,5 @@ report r = elim (r .verdict) [
       ++ line (fateWord Held ␣ decimal (heldCount (r .state)))
       ++ line (brokenWord ␣ decimal (brokenCount (r .state)))
       ++ line (fateWord Refused ␣ callsWord ␣ decimal (r .refused))
-  | Faulty f at ↦ line (fateWord Refused ␣ decimal (faultNumber f) ␣ atWord ␣ decimal at)
+  | Faulty f at ↦ line (fateWord Refused ␣ decimal (sheetFaultNumber f) ␣ atWord ␣ decimal at)
 ]

@@ -1,39 +1,111 @@
 // The calls: hand in, close a step, wind up. Each takes the state and gives the answer and the state after it; one that is turned
 // down gives back the state as it came in.
-use super::answer::Answer;
-use super::answer::Fault;
-use super::answer::Reply;
-use super::coherent::is_closed_in;
-use super::event::Fate;
-use super::event::is_delayable;
-use super::event::is_held;
-use super::event::is_open;
-use super::event::is_rejectable;
-use super::rule::does_bar;
-use super::rule::does_owe;
-use super::rule::makes_wait;
+use super::reply::Reply;
 use super::settle::Turned;
 use super::state::State;
-use super::state::attributes_in;
-use super::state::event_in;
-use super::state::fate_in;
-use super::state::flag_in;
-use super::state::rule_in;
+use plan::answer::Answer;
+use plan::answer::CallFault;
+use plan::calls::Call;
+use plan::event::event_in;
+use plan::event::is_delayable;
+use plan::event::is_rejectable;
+use plan::fate::Fate;
+use plan::fate::fate_in;
+use plan::fate::is_held;
+use plan::fate::is_open;
+use plan::mark::is_closed_in;
+use plan::mark::mark_in;
+use plan::plan::has_event;
+use plan::rule::does_bar;
+use plan::rule::does_owe;
+use plan::rule::makes_wait;
+use plan::rule::rule_in;
 ghost use mathlib.Core.Path.{_≡_};
-ghost use mathlib.Core.Bool.{not, _&&_, _||_};
+ghost use mathlib.Core.Bool.{_&&_, _||_};
 ghost use mathlib.Core.Option.{Option·map};
-ghost use Rattle.scheduler.specs.declared.event.Fate.the-variants.{Refused};
-ghost use Rattle.scheduler.specs.Base.{anyBelow, lowest};
-ghost use Rattle.scheduler.specs.State.{eventCount, ruleAt, closedAt, fateOf, isHeld, settleAs};
-ghost use Rattle.scheduler.specs.Rules.{stands, forbids, owes};
+ghost use Rattle.scheduler.specs.Prelude.{Refused, Submit, Close, Finish};
+ghost use Rattle.plan.specs.Base.{anyBelow, lowest};
+ghost use Rattle.plan.specs.Fates.{isHeld};
+ghost use Rattle.plan.specs.Plans.{eventCount, ruleAt};
+ghost use Rattle.plan.specs.Rules.{forbids, owes};
+ghost use Rattle.scheduler.specs.State.{fateOf, settleAs};
+ghost use Rattle.scheduler.specs.Rules.{stands};
 ghost use Rattle.scheduler.specs.Calls.{settle, breakIf, doAlone, decide, submit, lapse, closeStep, refuseHeld, finish};
-ghost use Rattle.scheduler.specs.Faults.{submitting, closing, finishing, hasEvent, turnedDownBy, call};
-ghost use Rattle.scheduler.specs.Turned.{turnOf, lapseIf};
+ghost use Rattle.scheduler.specs.Answers.{unclosedAt, turnedDownBy, call};
+ghost use Rattle.scheduler.specs.Internal.Turned.{turnOf, lapseIf};
 
 impl State {
+    // Hand in an event: the answer is its fate.
+    pub fn submit(self, event: u8) -> Reply
+        ensures { λ r. ⌜ r ≡ call self (Submit event) ⌝ }
+    {
+        let plan = self.plan;
+        if !self.is_coherent() {
+            return self.turn_down(CallFault::Incoherent);
+        }
+        if plan.event_count <= event {
+            return self.turn_down(CallFault::Unknown);
+        }
+        let state = self.after_submit(event);
+        let standings = state.standings;
+        let fate = fate_in(standings, event);
+        Reply {
+            answer: Answer::Is(fate),
+            state,
+        }
+    }
+
+    // Close a step.
+    pub fn close_step(self, step: u8) -> Reply
+        ensures { λ r. ⌜ r ≡ call self (Close step) ⌝ }
+    {
+        let plan = self.plan;
+        let closed = self.closed;
+        if !self.is_coherent() {
+            return self.turn_down(CallFault::Incoherent);
+        }
+        if !has_event(plan, step) {
+            return self.turn_down(CallFault::Unknown);
+        }
+        if is_closed_in(closed, step) {
+            return self.turn_down(CallFault::AlreadyClosed);
+        }
+        Reply {
+            answer: Answer::Made,
+            state: self.after_close(step),
+        }
+    }
+
+    // Wind up.
+    pub fn finish(self) -> Reply
+        ensures { λ r. ⌜ r ≡ call self Finish ⌝ }
+    {
+        if !self.is_coherent() {
+            return self.turn_down(CallFault::Incoherent);
+        }
+        if self.has_unclosed() {
+            return self.turn_down(CallFault::NotClosed);
+        }
+        Reply {
+            answer: Answer::Made,
+            state: self.after_finish(),
+        }
+    }
+
+    // Any call.
+    pub fn call(self, made: Call) -> Reply
+        ensures { λ r. ⌜ r ≡ call self made ⌝ }
+    {
+        match made {
+            Call::Submit(event) => self.submit(event),
+            Call::Close(step) => self.close_step(step),
+            Call::Finish => self.finish(),
+        }
+    }
+
     // Does rule `i`, not recorded as broken, forbid doing the event here, or owe in the state after it?
     fn does_strain(self, after: State, event: u8, i: u8) -> bool
-        ensures { λ r. ⌜ r ≡ (stands self i && (forbids self (ruleAt (self .plan) i) event || owes after (ruleAt (self .plan) i))) ⌝ }
+        ensures { λ r. ⌜ r ≡ (stands self i && (forbids (self .plan) (fateOf self) (ruleAt (self .plan) i) event || owes (self .plan) (fateOf after) (ruleAt (self .plan) i))) ⌝ }
     {
         let plan = self.plan;
         let rules = plan.rules;
@@ -42,7 +114,7 @@ impl State {
         let broken = self.broken;
         let next = after.standings;
         let rule = rule_in(rules, i);
-        !flag_in(broken, i)
+        !mark_in(broken, i)
             & (does_bar(standings, rule, event)
                 | makes_wait(events, standings, rule, event)
                 | does_owe(next, rule))
@@ -84,7 +156,8 @@ impl State {
         if found.ok {
             return self.do_order(found);
         }
-        if is_rejectable(attributes_in(events, event)) {
+        let found_event = event_in(events, event);
+        if is_rejectable(found_event.attributes) {
             return self.settle_as(Fate::Refused, event);
         }
         self.do_alone(event)
@@ -101,7 +174,8 @@ impl State {
             return self;
         }
         let held = self.hold(event);
-        if is_delayable(attributes_in(events, event)) {
+        let found = event_in(events, event);
+        if is_delayable(found.attributes) {
             return held.settle();
         }
         let decided = held.decide(event);
@@ -195,32 +269,15 @@ impl State {
         settled.refuse_held()
     }
 
-    // Has the step an event?
-    fn has_event(self, step: u8) -> bool
-        ensures { λ r. ⌜ r ≡ hasEvent (self .plan) step ⌝ }
-    {
-        let plan = self.plan;
-        let events = plan.events;
-        let n = plan.event_count;
-        let mut e: u8 = 0;
-        while e < n {
-            let event = event_in(events, e);
-            if event.step == step {
-                return true;
-            }
-            e += 1;
-        }
-        false
-    }
-
     // Has a step an event and is not closed?
     fn has_unclosed(self) -> bool
-        ensures { λ r. ⌜ r ≡ anyBelow 8 (λ k. hasEvent (self .plan) k && not (closedAt self k)) ⌝ }
+        ensures { λ r. ⌜ r ≡ anyBelow 8 (unclosedAt self) ⌝ }
     {
+        let plan = self.plan;
         let closed = self.closed;
         let mut step: u8 = 0;
         while step < 8 {
-            if self.has_event(step) & !is_closed_in(closed, step) {
+            if has_event(plan, step) & !is_closed_in(closed, step) {
                 return true;
             }
             step += 1;
@@ -229,68 +286,12 @@ impl State {
     }
 
     // A call turned down gives back the state as it came in.
-    fn turn_down(self, fault: Fault) -> Reply
+    fn turn_down(self, fault: CallFault) -> Reply
         ensures { λ r. ⌜ r ≡ turnedDownBy fault self ⌝ }
     {
         Reply {
             answer: Answer::TurnedDown(fault),
             state: self,
-        }
-    }
-
-    // Hand in an event: the answer is its fate.
-    pub fn submit(self, event: u8) -> Reply
-        ensures { λ r. ⌜ r ≡ call self (submitting event) ⌝ }
-    {
-        let plan = self.plan;
-        if !self.is_coherent() {
-            return self.turn_down(Fault::Incoherent);
-        }
-        if plan.event_count <= event {
-            return self.turn_down(Fault::Unknown);
-        }
-        let state = self.after_submit(event);
-        let standings = state.standings;
-        let fate = fate_in(standings, event);
-        Reply {
-            answer: Answer::Is(fate),
-            state,
-        }
-    }
-
-    // Close a step.
-    pub fn close_step(self, step: u8) -> Reply
-        ensures { λ r. ⌜ r ≡ call self (closing step) ⌝ }
-    {
-        let closed = self.closed;
-        if !self.is_coherent() {
-            return self.turn_down(Fault::Incoherent);
-        }
-        if !self.has_event(step) {
-            return self.turn_down(Fault::Unknown);
-        }
-        if is_closed_in(closed, step) {
-            return self.turn_down(Fault::AlreadyClosed);
-        }
-        Reply {
-            answer: Answer::Made,
-            state: self.after_close(step),
-        }
-    }
-
-    // Wind up.
-    pub fn finish(self) -> Reply
-        ensures { λ r. ⌜ r ≡ call self finishing ⌝ }
-    {
-        if !self.is_coherent() {
-            return self.turn_down(Fault::Incoherent);
-        }
-        if self.has_unclosed() {
-            return self.turn_down(Fault::NotClosed);
-        }
-        Reply {
-            answer: Answer::Made,
-            state: self.after_finish(),
         }
     }
 }

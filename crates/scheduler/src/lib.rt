@@ -1,12 +1,8 @@
-// The state of a plan under way: its types, readers and writers, what rules say of it, the chosen order, number 12, settling and the
-// calls. The definitions of document 01 stand in specs/.
-pub mod answer;
+// The state of a plan under way: its writers, the chosen order, settling, the calls and number 12. The definitions of document 01 stand
+// in specs/; those that only private functions need, in specs/Internal/.
 mod call;
 mod coherent;
-pub mod event;
-mod history;
 pub mod order;
-pub mod read;
-pub mod rule;
+pub mod reply;
 mod settle;
 pub mod state;

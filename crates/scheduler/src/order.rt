@@ -1,27 +1,18 @@
 // Which events may be done, and the chosen order.
-use super::event::Event;
-use super::event::Fate;
-use super::event::is_forcible;
-use super::event::is_held;
-use super::event::is_open;
-use super::rule::does_bar;
-use super::rule::does_owe;
-use super::rule::makes_wait;
-use super::state::Standing;
 use super::state::State;
-use super::state::attributes_in;
-use super::state::fate_in;
-use super::state::flag_in;
-use super::state::rule_in;
+use plan::fate::Fate;
+use plan::mark::mark_in;
+use plan::rule::does_bar;
+use plan::rule::does_owe;
+use plan::rule::is_ready;
+use plan::rule::makes_wait;
+use plan::rule::rule_in;
 ghost use mathlib.Core.Path.{_≡_};
 ghost use mathlib.Core.Bool.{true, false};
 ghost use Prim.Native.Nat.{ℕ, _+_, _≤_};
-ghost use Rattle.scheduler.specs.Base.{readAt};
-ghost use Rattle.scheduler.specs.State.{blankRule};
-ghost use Rattle.scheduler.specs.Parts.{partOf};
 ghost use Rattle.scheduler.specs.Rules.{barred, forbidden, owing};
-ghost use Rattle.scheduler.specs.Orders.{ready, mayDo, orderOf, chosen};
-ghost use Rattle.scheduler.specs.Found.{foundFrom, foundOrder};
+ghost use Rattle.scheduler.specs.Orders.{mayDo, doOne, orderOf, chosen, foundOrder};
+ghost use Rattle.scheduler.specs.Internal.Placed.{foundFrom};
 
 // What a search for an order finds: the order's events from the front, zeros after them, and its length.
 pub struct Found {
@@ -30,15 +21,27 @@ pub struct Found {
     pub len: u8,
 }
 
-// Is the event held, or open and forcible?
-fn is_ready(events: [Event; 16], standings: [Standing; 16], event: u8) -> bool
-    ensures { λ r. ⌜ r ≡ ready (partOf events standings) event ⌝ }
-{
-    let fate = fate_in(standings, event);
-    is_held(fate) | (is_open(fate) & is_forcible(attributes_in(events, event)))
-}
-
 impl State {
+    // The chosen order for the event: of lengths 1 to 6 the first that has one.
+    pub fn find_order(self, event: u8) -> Found
+        ensures { λ r. ⌜ r ≡ foundOrder (chosen self event) ⌝ }
+    {
+        let blank = [0; 6];
+        let mut k = 1;
+        while k < 7 {
+            let r = search(self, event, false, 0, k);
+            if r.ok {
+                return r;
+            }
+            k += 1;
+        }
+        Found {
+            ok: false,
+            events: blank,
+            len: 0,
+        }
+    }
+
     // Does a rule forbid doing the event for good?
     pub(crate) fn is_barred(self, event: u8) -> bool
         ensures { λ r. ⌜ r ≡ barred self event ⌝ }
@@ -50,7 +53,7 @@ impl State {
         let n = plan.rule_count;
         let mut i = 0;
         while i < n {
-            if !flag_in(broken, i) & does_bar(standings, rule_in(rules, i), event) {
+            if !mark_in(broken, i) & does_bar(standings, rule_in(rules, i), event) {
                 return true;
             }
             i += 1;
@@ -71,7 +74,7 @@ impl State {
         let mut i = 0;
         while i < n {
             let rule = rule_in(rules, i);
-            if !flag_in(broken, i)
+            if !mark_in(broken, i)
                 & (does_bar(standings, rule, event) | makes_wait(events, standings, rule, event))
             {
                 return true;
@@ -92,7 +95,7 @@ impl State {
         let n = plan.rule_count;
         let mut i = 0;
         while i < n {
-            if !flag_in(broken, i) & does_owe(standings, rule_in(rules, i)) {
+            if !mark_in(broken, i) & does_owe(standings, rule_in(rules, i)) {
                 return true;
             }
             i += 1;
@@ -113,24 +116,11 @@ impl State {
         false
     }
 
-    // The chosen order for the event: of lengths 1 to 6 the first that has one.
-    pub fn find_order(self, event: u8) -> Found
-        ensures { λ r. ⌜ r ≡ foundOrder (chosen self event) ⌝ }
+    // One event of an order done.
+    pub(crate) fn do_one(self, event: u8) -> State
+        ensures { λ r. ⌜ r ≡ doOne self event ⌝ }
     {
-        let blank = [0; 6];
-        let mut k = 1;
-        while k < 7 {
-            let r = search(self, event, false, 0, k);
-            if r.ok {
-                return r;
-            }
-            k += 1;
-        }
-        Found {
-            ok: false,
-            events: blank,
-            len: 0,
-        }
+        self.settle_as(Fate::Done, event)
     }
 }
 
@@ -163,13 +153,7 @@ fn search(s: State, event: u8, had: bool, at: u8, places: u8) -> Found
     let mut x = 0;
     while x < n {
         if s.may_do(x) {
-            let r = search(
-                s.settle_as(Fate::Done, x),
-                event,
-                had | (x == event),
-                at + 1,
-                places - 1,
-            );
+            let r = search(s.do_one(x), event, had | (x == event), at + 1, places - 1);
             if r.ok {
                 let mut q = r;
                 q.events[at as usize] = x;

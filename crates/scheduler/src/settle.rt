@@ -1,17 +1,17 @@
 // Settling.
-use super::event::Fate;
-use super::event::is_held;
 use super::order::Found;
 use super::state::State;
-use super::state::fate_in;
+use plan::fate::Fate;
+use plan::fate::fate_in;
+use plan::fate::is_held;
 ghost use mathlib.Core.Path.{_≡_};
 ghost use mathlib.Core.Option.{Option·map};
 ghost use lib.ListN.{take};
+ghost use Rattle.scheduler.specs.Prelude.{Refused};
 ghost use Rattle.scheduler.specs.State.{settleAs};
-ghost use Rattle.scheduler.specs.declared.event.Fate.the-variants.{Refused};
 ghost use Rattle.scheduler.specs.Orders.{doAll};
-ghost use Rattle.scheduler.specs.Turned.{turnOf};
 ghost use Rattle.scheduler.specs.Calls.{toRefuse, toDo, settleOnce, settle};
+ghost use Rattle.scheduler.specs.Internal.Turned.{turnOf};
 
 // Whether there was a turn to make, and the state after it.
 pub(crate) struct Turned {
@@ -20,6 +20,23 @@ pub(crate) struct Turned {
 }
 
 impl State {
+    // Settling: turns until none is left. Each settles an event, and there are at most 16.
+    pub(crate) fn settle(self) -> State
+        ensures { λ r. ⌜ r ≡ settle self ⌝ }
+    {
+        let mut next = self;
+        let mut left: u8 = 16;
+        while 0 < left {
+            let turned = next.settle_once();
+            if !turned.moved {
+                return next;
+            }
+            next = turned.state;
+            left -= 1;
+        }
+        next
+    }
+
     // The events of an order done, one after the other.
     pub(crate) fn do_order(self, found: Found) -> State
         ensures { λ r. ⌜ r ≡ doAll self (take (found .len) (found .events)) ⌝ }
@@ -30,7 +47,7 @@ impl State {
         let mut next = self;
         let mut i: u8 = 0;
         while i < n {
-            next = next.settle_as(Fate::Done, events[i as usize]);
+            next = next.do_one(events[i as usize]);
             i += 1;
         }
         next
@@ -96,22 +113,5 @@ impl State {
             return refusal;
         }
         self.do_chosen()
-    }
-
-    // Settling: turns until none is left. Each settles an event, and there are at most 16.
-    pub(crate) fn settle(self) -> State
-        ensures { λ r. ⌜ r ≡ settle self ⌝ }
-    {
-        let mut next = self;
-        let mut left: u8 = 16;
-        while 0 < left {
-            let turned = next.settle_once();
-            if !turned.moved {
-                return next;
-            }
-            next = turned.state;
-            left -= 1;
-        }
-        next
     }
 }

@@ -1,34 +1,10 @@
-use super::event::Event;
-use super::event::Fate;
-use super::rule::Rule;
-ghost use mathlib.Core.Bool.{false};
+// The state of a plan under way, and its four writers.
+use plan::fate::Fate;
+use plan::fate::Standing;
+use plan::history::Entry;
+use plan::plan::Plan;
 ghost use mathlib.Core.Path.{_≡_};
-ghost use Rattle.scheduler.specs.Base.{readAt};
-ghost use Rattle.scheduler.specs.State.{blankStanding, blankEvent, blankRule, hold, settleAs, shut, breakRule};
-
-// A rule in its place.
-pub struct RuleLine {
-    pub rule: Rule,
-}
-
-// What a sheet declares. No call changes it.
-pub struct Plan {
-    pub events: [Event; 16],
-    pub event_count: u8,
-    pub rules: [RuleLine; 16],
-    pub rule_count: u8,
-}
-
-// An event's fate in its place.
-pub struct Standing {
-    pub fate: Fate,
-}
-
-// A line of the history: an event with its fate.
-pub struct Entry {
-    pub event: u8,
-    pub fate: Fate,
-}
+ghost use Rattle.scheduler.specs.State.{hold, settleAs, shut, breakRule};
 
 // A plan and what has happened (document 01: a funeral's state).
 pub struct State {
@@ -38,66 +14,6 @@ pub struct State {
     pub closed: [bool; 8],
     pub history: [Entry; 16],
     pub history_len: u8,
-}
-
-// The fate in a place; past the places, the blank's.
-pub(crate) fn fate_in(standings: [Standing; 16], event: u8) -> Fate
-    ensures { λ r. ⌜ r ≡ readAt 16 standings event blankStanding .fate ⌝ }
-{
-    if event < 16 {
-        let standing = standings[event as usize];
-        let fate = standing.fate;
-        fate
-    } else {
-        Fate::Open
-    }
-}
-
-// The event in a place; past the places, the blank.
-pub(crate) fn event_in(events: [Event; 16], i: u8) -> Event
-    ensures { λ r. ⌜ r ≡ readAt 16 events i blankEvent ⌝ }
-{
-    if i < 16 {
-        let event = events[i as usize];
-        event
-    } else {
-        Event {
-            step: 0,
-            attributes: 0,
-        }
-    }
-}
-
-// The attributes in a place; past the places, the blank's.
-pub(crate) fn attributes_in(events: [Event; 16], event: u8) -> u8
-    ensures { λ r. ⌜ r ≡ readAt 16 events event blankEvent .attributes ⌝ }
-{
-    if event < 16 {
-        let found = events[event as usize];
-        found.attributes
-    } else {
-        0
-    }
-}
-
-// The rule in a place; past the places, the blank.
-pub(crate) fn rule_in(rules: [RuleLine; 16], i: u8) -> Rule
-    ensures { λ r. ⌜ r ≡ readAt 16 rules i blankRule .rule ⌝ }
-{
-    if i < 16 {
-        let line = rules[i as usize];
-        let rule = line.rule;
-        rule
-    } else {
-        Rule::Order(0, 0)
-    }
-}
-
-// The flag in a place; past the places, not set.
-pub(crate) fn flag_in(flags: [bool; 16], i: u8) -> bool
-    ensures { λ r. ⌜ r ≡ readAt 16 flags i false ⌝ }
-{
-    if i < 16 { flags[i as usize] } else { false }
 }
 
 impl State {

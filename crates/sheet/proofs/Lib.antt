@@ -1,5 +1,7 @@
-pub mod Pieces
-pub mod Rows
-pub mod Passed
+-- The lemmas that the functions' proofs cite.
+pub mod RecordLaws
+pub mod RecordRows
+pub mod FaultlessRecords
+pub mod ProgressLaws
 pub mod Reading
-pub mod Held
+pub mod ReaderOwned

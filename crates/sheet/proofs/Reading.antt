@@ -6,84 +6,60 @@ use mathlib.Core.Logic.{inl, inr}
 use mathlib.Core.Option.{Option, none, some}
 use mathlib.Core.Path.{_≡_, refl, sym, _∙_, ap}
 use native.Mathlib.Omega.{arith}
-use borrow.Author.Tests.{lt-ltb, le-ltb, eq-eqb, ne-eqb}
 use lib.Dec.{eqb, ltb}
 use lib.ListN.{length}
-use Rattle.scheduler.specs.Sheet.{whole, faulty, bodyLength, declare, ending, readFrom, readPlan, readSheet}
-use Rattle.scheduler.proofs.Tests.{clash, either}
-use Rattle.scheduler.proofs.Budgets.{read-enough}
-use Rattle.sheet.specs.Types.{Plan, Fault, Extra, Check, Fine, Bad, Verdict, Admitted, Faulty, Record, Progress}
-use Rattle.sheet.specs.Progress.{recordAt, faultOf, checkOf, verdictOf, endVerdict, started, stopped, takeRecord, readingOf}
-use Rattle.sheet.specs.Place.{placeAfter}
-use Rattle.sheet.proofs.Pieces.{place-inside, check-bad, check-fine}
-use Rattle.sheet.proofs.Passed.{passed}
-
--- the branches of `takeRecord`
-module _ (p : Progress) (len at : ℕ) (r : Record) where
-  abbrev next : Progress
-  next = record { plan = declare (p .plan) (r .kind) (r .x) (r .y) (r .z); going = true; verdict = Admitted }
-
-  take-fault : (f : Fault) → faultOf (p .plan) len at r ≡ some f → takeRecord p len at r ≡ stopped p (Faulty f at)
-  unfolding takeRecord
-  take-fault f h = rw (h, takeRecord)
-
-  take-end : faultOf (p .plan) len at r ≡ none → eqb (r .kind) 5 ≡ true → takeRecord p len at r ≡ stopped p (endVerdict len at)
-  unfolding takeRecord
-  take-end h k = rw (h, k, takeRecord)
-
-  take-next : faultOf (p .plan) len at r ≡ none → eqb (r .kind) 5 ≡ false → takeRecord p len at r ≡ next
-  unfolding takeRecord
-  take-next h k = rw (h, k, takeRecord)
-
-  -- the same by what the record's check answered
-  pub taken-bad : (check : Check) (f : Fault) (v : Verdict) → check ≡ checkOf (faultOf (p .plan) len at r) → check ≡ Bad f → v ≡ verdictOf check at → stopped p v ≡ takeRecord p len at r
-  taken-bad check f v e h ev = rw (ev, h) (sym (take-fault f (check-bad _ f (sym h ∙ e))))
-
-  pub no-fault : (check : Check) → check ≡ checkOf (faultOf (p .plan) len at r) → check ≡ Fine → faultOf (p .plan) len at r ≡ none
-  no-fault check e h = check-fine (faultOf (p .plan) len at r) (sym h ∙ e)
-
-  module _ (t : faultOf (p .plan) len at r ≡ none) where
-    pub taken-extra : r .kind ≡ 5 → at + 1 < len → stopped p (Faulty Extra (at + 1)) ≡ takeRecord p len at r
-    taken-extra k l = sym (take-end t (eq-eqb (r .kind) 5 k) ∙ rw (lt-ltb (at + 1) len l, endVerdict))
-
-    pub taken-end : r .kind ≡ 5 → len ≤ at + 1 → stopped p Admitted ≡ takeRecord p len at r
-    taken-end k l = sym (take-end t (eq-eqb (r .kind) 5 k) ∙ rw (le-ltb (at + 1) len l, endVerdict))
-
-    pub taken-next : (q : Plan) → (r .kind ≡ 5 → ⊥) → q ≡ declare (p .plan) (r .kind) (r .x) (r .y) (r .z) → record { plan = q; going = true; verdict = Admitted } ≡ takeRecord p len at r
-    taken-next q k e = rw e (sym (take-next t (ne-eqb (r .kind) 5 k)))
+use Rattle.plan.specs.Records.{bodyLength, recordAt, declare, recordFault}
+use Rattle.plan.specs.Sheets.{whole, faulty, readFrom, readPlan, ending, sheetPlan}
+use Rattle.plan.proofs.Tests.{clash, either}
+use Rattle.plan.proofs.SheetReading.{read-enough}
+use Rattle.scheduler.specs.Sheet.{readSheet}
+use Rattle.sheet.specs.Types.{Plan, Record, SheetFault, Extra, Verdict, Admitted, Faulty, Progress}
+use Rattle.sheet.specs.Internal.Progress.{endVerdict, started, stopped, takeRecord, readingOf}
+use Rattle.sheet.specs.Internal.Place.{placeAfter}
+use Rattle.sheet.proofs.RecordLaws.{place-inside}
+use Rattle.sheet.proofs.FaultlessRecords.{faultless}
+use Rattle.sheet.proofs.ProgressLaws.{next, take-fault, take-end, take-next}
 
 -- the branches of `readFrom`
 module _ (n : ℕ) (b : List ℕ) (at : ℕ) (p : Plan) where
   abbrev here : Record
   here = recordAt b at
 
-  read-fault : (f : Fault) → faultOf p (length b) at here ≡ some f → readFrom (suc n) b at p ≡ faulty f at
+  read-fault : (f : SheetFault) → recordFault p (length b) at here ≡ some f → readFrom (suc n) b at p ≡ faulty f at
   unfolding readFrom
   read-fault f h = rw (h, readFrom)
 
-  read-end : faultOf p (length b) at here ≡ none → eqb (here .kind) 5 ≡ true → readFrom (suc n) b at p ≡ ending b at p
+  read-end : recordFault p (length b) at here ≡ none → eqb (here .kind) 5 ≡ true
+      → readFrom (suc n) b at p ≡ whole p (at + 1)
   unfolding readFrom
   read-end h k = rw (h, k, readFrom)
 
-  read-next : faultOf p (length b) at here ≡ none → eqb (here .kind) 5 ≡ false → readFrom (suc n) b at p ≡ readFrom n b (at + 1 + bodyLength (here .kind)) (declare p (here .kind) (here .x) (here .y) (here .z))
+  read-next : recordFault p (length b) at here ≡ none → eqb (here .kind) 5 ≡ false
+      → readFrom (suc n) b at p ≡ readFrom n b (at + 1 + bodyLength (here .kind)) (declare p here)
   unfolding readFrom
   read-next h k = rw (h, k, readFrom)
 
--- what the sheet comes to, by what its plan comes to
-sheet-faulty : (b : List ℕ) (f : Fault) (at : ℕ) (p : Plan) → readPlan b ≡ faulty f at → readingOf (Faulty f at) p ≡ readSheet b
-unfolding readSheet readingOf
-sheet-faulty b f at p h = rw (h, readSheet)
+-- what the sheet comes to, by what it comes to with the bytes after kind 5
+module _ (b : List ℕ) (p : Plan) where
+  judged-faulty : (f : SheetFault) (at : ℕ) → sheetPlan b ≡ faulty f at → readingOf (Faulty f at) p ≡ readSheet b
+  unfolding readSheet readingOf
+  judged-faulty f at h = rw (h, readSheet)
 
-sheet-whole : (b : List ℕ) (p : Plan) → readPlan b ≡ whole p → readingOf Admitted p ≡ readSheet b
-unfolding readSheet readingOf
-sheet-whole b p h = rw (h, readSheet)
+  judged-whole : (at : ℕ) → sheetPlan b ≡ whole p at → readingOf Admitted p ≡ readSheet b
+  unfolding readSheet readingOf
+  judged-whole at h = rw (h, readSheet)
 
-sheet-end : (b : List ℕ) (at : ℕ) (p : Plan) → readPlan b ≡ ending b at p → readingOf (endVerdict (length b) at) p ≡ readSheet b
-unfolding ending
-sheet-end b at p h = elim (either (ltb (at + 1) (length b))) [
-  | inl t ↦ rw (t, endVerdict) (sheet-faulty b Extra (at + 1) p (h ∙ rw (t, ending)))
-  | inr t ↦ rw (t, endVerdict) (sheet-whole b p (h ∙ rw (t, ending)))
-]
+  -- the same by what its records come to
+  sheet-faulty : (f : SheetFault) (at : ℕ) → readPlan b ≡ faulty f at → readingOf (Faulty f at) p ≡ readSheet b
+  unfolding sheetPlan ending
+  sheet-faulty f at h = judged-faulty f at (ap (ending b) h)
+
+  sheet-end : (at : ℕ) → readPlan b ≡ whole p (at + 1) → readingOf (endVerdict (length b) at) p ≡ readSheet b
+  unfolding sheetPlan ending
+  sheet-end at h = elim (either (ltb (at + 1) (length b))) [
+    | inl t ↦ rw (t, endVerdict) (judged-faulty Extra (at + 1) (ap (ending b) h ∙ rw (t, ending)))
+    | inr t ↦ rw (t, endVerdict) (judged-whole (at + 1) (ap (ending b) h ∙ rw (t, ending)))
+  ]
 
 -- what is left to read comes to what the sheet comes to, and the budget passes it
 pub record Left (b : List ℕ) (at : ℕ) (p : Plan) : Type 0 where
@@ -105,7 +81,8 @@ begins b = record {
   done = λ g. absurd (clash refl g);
 }
 
-is-stopped : (b : List ℕ) (at : ℕ) (p : Progress) (v : Verdict) → readingOf v (p .plan) ≡ readSheet b → Underway b at (stopped p v)
+is-stopped : (b : List ℕ) (at : ℕ) (p : Progress) (v : Verdict) → readingOf v (p .plan) ≡ readSheet b
+    → Underway b at (stopped p v)
 is-stopped b at p v h = record { on = λ g. absurd (clash g refl); done = λ g. h }
 
 -- a turn: the record at the offset is taken, and the offset is the next record's
@@ -122,36 +99,37 @@ module _ (b : List ℕ) (at : ℕ) (p : Progress) (g : p .going ≡ true) where
   abbrev taken : Progress
   taken = takeRecord p len at rec
 
-  module _ (h : faultOf (p .plan) len at rec ≡ none) where
+  module _ (h : recordFault (p .plan) len at rec ≡ none) where
     moved : after ≡ at + 1 + bodyLength (rec .kind)
-    moved = place-inside len at rec (passed (p .plan) len at rec h .inside)
+    moved = place-inside len at rec (faultless (p .plan) len at rec h .inside)
 
   pub again : Underway b at p → Underway b after taken
-  again u = go (faultOf (p .plan) len at rec) refl
+  again u = go (recordFault (p .plan) len at rec) refl
     where
       l : Left b at (p .plan)
       l = u .on g
 
-      more : (n : ℕ) → len ≤ n + at → readFrom (suc n) b at (p .plan) ≡ readPlan b → faultOf (p .plan) len at rec ≡ none → eqb (rec .kind) 5 ≡ false → Underway b after (next p len at rec)
-      more zero e s h k = absurd (omega (arith, passed (p .plan) len at rec h .inside))
+      more : (n : ℕ) → len ≤ n + at → readFrom (suc n) b at (p .plan) ≡ readPlan b
+          → recordFault (p .plan) len at rec ≡ none → eqb (rec .kind) 5 ≡ false → Underway b after (next p len at rec)
+      more zero e s h k = absurd (omega (arith, faultless (p .plan) len at rec h .inside))
       more (suc n) e s h k = rw (moved h) (record { on = λ g′. record { budget = n; enough = omega arith; same = sym (read-next (suc n) b at (p .plan) h k) ∙ s }; done = λ g′. absurd (clash refl g′) })
 
-      go : (o : Option Fault) → faultOf (p .plan) len at rec ≡ o → Underway b after taken
-      go (some f) h = rw (take-fault p len at rec f h) (is-stopped b after p _ (sheet-faulty b f at (p .plan) (sym (l .same) ∙ read-fault (l .budget) b at (p .plan) f h)))
+      go : (o : Option SheetFault) → recordFault (p .plan) len at rec ≡ o → Underway b after taken
+      go (some f) h = rw (take-fault p len at rec f h) (is-stopped b after p _ (sheet-faulty b (p .plan) f at (sym (l .same) ∙ read-fault (l .budget) b at (p .plan) f h)))
       go none h = elim (either (eqb (rec .kind) 5)) [
-        | inl k ↦ rw (take-end p len at rec h k) (is-stopped b after p _ (sheet-end b at (p .plan) (sym (l .same) ∙ read-end (l .budget) b at (p .plan) h k)))
+        | inl k ↦ rw (take-end p len at rec h k) (is-stopped b after p _ (sheet-end b (p .plan) at (sym (l .same) ∙ read-end (l .budget) b at (p .plan) h k)))
         | inr k ↦ rw (take-next p len at rec h k) (more (l .budget) (l .enough) (l .same) h k)
       ]
 
   pub less : leftOf b after taken < leftOf b at p
-  less = go (faultOf (p .plan) len at rec) refl
+  less = go (recordFault (p .plan) len at rec) refl
     where
       now-left : leftOf b at p ≡ suc (len - at)
       now-left = ap (λ (t : Bool). cond t (suc (len - at)) 0) g
 
-      go : (o : Option Fault) → faultOf (p .plan) len at rec ≡ o → leftOf b after taken < leftOf b at p
+      go : (o : Option SheetFault) → recordFault (p .plan) len at rec ≡ o → leftOf b after taken < leftOf b at p
       go (some f) h = omega (arith, now-left, ap (leftOf b after) (take-fault p len at rec f h))
       go none h = elim (either (eqb (rec .kind) 5)) [
         | inl k ↦ omega (arith, now-left, ap (leftOf b after) (take-end p len at rec h k))
-        | inr k ↦ omega (arith, now-left, ap (leftOf b after) (take-next p len at rec h k), moved h, passed (p .plan) len at rec h .whole)
+        | inr k ↦ omega (arith, now-left, ap (leftOf b after) (take-next p len at rec h k), moved h, faultless (p .plan) len at rec h .whole)
       ]

@@ -1,3 +1,3 @@
+-- Names for types, and what private functions answer. What a sheet comes to is defined in `plan` and `scheduler`.
 pub mod Types
-pub mod Progress
-pub mod Place
+pub mod Internal

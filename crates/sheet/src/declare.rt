@@ -1,40 +1,39 @@
-use super::bytes::Record;
+// What records declare, added to a plan, and the first state of a plan.
 use super::kind::EVENT;
 use super::kind::FOUR_EVENTS;
 use super::kind::rule_of;
-use scheduler::event::Event;
-use scheduler::event::Fate;
-use scheduler::rule::Rule;
-use scheduler::state::Entry;
-use scheduler::state::Plan;
-use scheduler::state::RuleLine;
-use scheduler::state::Standing;
+use plan::event::Event;
+use plan::fate::Fate;
+use plan::fate::Standing;
+use plan::history::Entry;
+use plan::plan::Plan;
+use plan::record::Record;
+use plan::rule::Rule;
+use plan::rule::RuleLine;
 use scheduler::state::State;
 ghost use mathlib.Core.Path.{_≡_};
 ghost use Prim.Native.Nat.{_+_, _≤_, _<_};
-ghost use Rattle.scheduler.specs.State.{emptyPlan, firstState, eventCount, ruleCount};
-ghost use Rattle.scheduler.specs.Sheet.{addEvent, addRule, addEvents, table1, declare};
-ghost use Rattle.sheet.specs.Progress.{Room};
+ghost use Rattle.plan.specs.Plans.{eventCount, ruleCount};
+ghost use Rattle.plan.specs.Records.{addEvent, addRule, addEvents, table1, declare};
+ghost use Rattle.scheduler.specs.State.{firstState};
+ghost use Rattle.sheet.specs.Internal.Progress.{Room};
 
 // The attributes of a kind 6 record's events: st, pr, cm, ab of the paper's table 1.
 const TABLE_1: [u8; 4] = [7, 0, 6, 1];
 
-pub(crate) fn empty_plan() -> Plan
-    ensures { λ r. ⌜ r ≡ emptyPlan ⌝ }
+// The plan with what a record declares.
+pub(crate) fn declare(plan: Plan, rec: Record) -> Plan
+    requires { ⌜ Room plan (rec .kind) ⌝ }
+    ensures { λ r. ⌜ r ≡ declare plan rec ⌝ }
 {
-    let events = [Event {
-        step: 0,
-        attributes: 0,
-    }; 16];
-    let rules = [RuleLine {
-        rule: Rule::Order(0, 0),
-    }; 16];
-    Plan {
-        events,
-        event_count: 0,
-        rules,
-        rule_count: 0,
+    let kind = rec.kind;
+    if kind == EVENT {
+        return add_event(plan, rec.x, rec.y);
     }
+    if kind == FOUR_EVENTS {
+        return add_events(plan, rec.x);
+    }
+    add_rule(plan, rule_of(rec))
 }
 
 // An admitted sheet's first state.
@@ -69,17 +68,6 @@ fn add_event(plan: Plan, step: u8, attributes: u8) -> Plan
     next
 }
 
-fn add_rule(plan: Plan, rule: Rule) -> Plan
-    requires { ⌜ ruleCount plan < 16 ⌝ }
-    ensures { λ r. ⌜ r ≡ addRule plan rule ⌝ }
-{
-    let n = plan.rule_count;
-    let mut next = plan;
-    next.rules[n as usize] = RuleLine { rule };
-    next.rule_count = n + 1;
-    next
-}
-
 // The four events of a kind 6 record.
 fn add_events(plan: Plan, step: u8) -> Plan
     requires { ⌜ eventCount plan + 4 ≤ 16 ⌝ }
@@ -94,17 +82,13 @@ fn add_events(plan: Plan, step: u8) -> Plan
     next
 }
 
-// The plan with what a record declares.
-pub(crate) fn declare(plan: Plan, rec: Record) -> Plan
-    requires { ⌜ Room plan (rec .kind) ⌝ }
-    ensures { λ r. ⌜ r ≡ declare plan (rec .kind) (rec .x) (rec .y) (rec .z) ⌝ }
+fn add_rule(plan: Plan, rule: Rule) -> Plan
+    requires { ⌜ ruleCount plan < 16 ⌝ }
+    ensures { λ r. ⌜ r ≡ addRule plan rule ⌝ }
 {
-    let kind = rec.kind;
-    if kind == EVENT {
-        return add_event(plan, rec.x, rec.y);
-    }
-    if kind == FOUR_EVENTS {
-        return add_events(plan, rec.x);
-    }
-    add_rule(plan, rule_of(rec))
+    let n = plan.rule_count;
+    let mut next = plan;
+    next.rules[n as usize] = RuleLine { rule };
+    next.rule_count = n + 1;
+    next
 }

@@ -1,8 +1,9 @@
-use super::bytes::Record;
-use super::bytes::byte_at;
-use scheduler::rule::Rule;
+// The kinds of records: the length of a body, what it declares, and the rule of a rule's record.
+use plan::bytes::byte_at;
+use plan::record::Record;
+use plan::rule::Rule;
 ghost use mathlib.Core.Path.{_≡_};
-ghost use Rattle.scheduler.specs.Sheet.{bodyLength, newEvents, newRules, ruleOf};
+ghost use Rattle.plan.specs.Records.{bodyLength, newEvents, newRules, ruleOf};
 
 // The kinds that the code names.
 pub(crate) const EVENT: u8 = 1;
@@ -42,7 +43,7 @@ pub(crate) fn new_rules(kind: u8) -> u8
 
 // The rule of a record of kind 2, 3 or 4.
 pub(crate) fn rule_of(rec: Record) -> Rule
-    ensures { λ r. ⌜ r ≡ ruleOf (rec .kind) (rec .x) (rec .y) (rec .z) ⌝ }
+    ensures { λ r. ⌜ r ≡ ruleOf rec ⌝ }
 {
     let kind = rec.kind;
     if kind == ORDER {

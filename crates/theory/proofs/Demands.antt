@@ -1,51 +1,70 @@
--- Demand 3, of the scheduler of document 01.
+-- Demand 3, of the scheduler of document 01: an invariant of any list on an admitted sheet, and what follows from it.
 use Prim.Native.Nat.{ℕ, zero, suc, _≤_, _<_}
 use native.Mathlib.Omega.{arith}
 use native.Mathlib.Decide.{ℕ-discrete, decLt}
-use borrow.Author.Tests.{eq-eqb, ne-eqb, ltb-true, ltb-false, lt-ltb, le-leb, lt-leb, not-true}
-use mathlib.Core.Bool.{Bool, true, false, not, _&&_, _||_, and-false}
+use borrow.Author.Tests.{eq-eqb, ne-eqb, eqb-true, ltb-true, ltb-false, le-leb, lt-leb, not-true, not-false}
+use mathlib.Core.Bool.{Bool, true, false, not, _&&_, _||_, cond, and-false}
 use mathlib.Core.List.{List, [], _∷_, _++_, append-nil}
-use mathlib.Core.Logic.{_≢_, _⊎_, inl, inr}
+use mathlib.Core.Logic.{_≢_, inl, inr}
 use mathlib.Core.Option.{none, some}
 use mathlib.Core.Path.{_≡_, refl, sym, _∙_, ap, subst}
-use lib.Dec.{eqb}
-use lib.ListN.{length, getD, length-replicate, getD-replicate, replicate}
-use Rattle.theory.proofs.Types.{Fate, Open, Held, Done, Refused, Lapsed, Rule, Order, Need, Conditional, Plan, Standing, Entry, State, Fault, Unknown, AlreadyClosed, NotClosed, Reply}
-use Rattle.scheduler.specs.Base.{anyBelow, allBelow, among, thoseBelow, readAt}
-use Rattle.scheduler.specs.State.{eventCount, ruleCount, stepOf, ruleAt, firstState, blankStanding, blankEntry, fateOf, brokenAt, closedAt, lines, isOpen, isHeld, isDone, isSettled, hold, shut, settleAs}
-use Rattle.scheduler.specs.Rules.{soundEvent, fateIf, fatesIn, doneInTurn, forbids, owes, holds, badStep}
+use lib.Dec.{eqb, ltb}
+use lib.ListN.{length, getD, length-replicate, getD-replicate, replicate, List·getD-eq-default}
+use Rattle.theory.proofs.Types.{Fate, Open, Held, Done, Refused, Lapsed, Rule, Order, Need, Conditional, Plan, Standing, Entry, State, CallFault, Unknown, AlreadyClosed, NotClosed, Reply, Call, Submit, Close, Finish}
+use Rattle.plan.specs.Base.{anyBelow, allBelow, among, thoseBelow, readAt}
+use Rattle.plan.specs.Plans.{eventCount, ruleCount, stepOf, ruleAt, hasEvent}
+use Rattle.scheduler.specs.State.{firstState, fateOf, brokenAt, closedAt, lines, hold, shut, settleAs}
+use Rattle.plan.specs.Fates.{blankStanding, isOpen, isHeld, isDone, isSettled}
+use Rattle.plan.specs.Histories.{blankEntry, fateIf, fatesIn, doneInTurn, holds, declaredOnly}
+use Rattle.plan.specs.Rules.{owes}
 use Rattle.scheduler.specs.Orders.{Viable, hasViable}
 use Rattle.scheduler.specs.Calls.{strains, doAlone, submit, closeStep, finish}
-use Rattle.scheduler.specs.Faults.{firstFault, declaredOnly, coherent, hasEvent, Call, submitting, closing, finishing, callFault, accept, call, isTurnedDown}
+use Rattle.plan.specs.Faults.{firstFault, isTurnedDown}
+use Rattle.scheduler.specs.Coherent.{coherent}
+use Rattle.scheduler.specs.Answers.{unclosedAt, callFault, accept, call}
 use Rattle.scheduler.specs.Sheet.{readSheet, admitted}
-use Rattle.scheduler.specs.Demand.{after, seen, Observed, nothingYet, waitsAs, stateOf, accepted, startsDone, doneAlone, against, newlyRecorded, shows, onlyHistory, observe, observeAll, broken, unbreakable, Holds, Extends, Grows, Keeps, scheduler}
-use Rattle.scheduler.proofs.Tests.{clash, either, or-either, count-zero, or-both, and-left, and-right, any-none, any-some, any-found, all-at}
-use Rattle.scheduler.proofs.Laws.{open-is, fate-hold-same, fate-hold-other, plan-hold, closed-hold, broken-hold, lines-hold, broken-settle, fate-shut, broken-shut, lines-shut, closed-shut-same, closed-shut-other}
+use Rattle.scheduler.specs.Lists.{after, scheduler}
+use Rattle.scheduler.specs.Demand.{seen, Observed, nothingYet, submits, closes, anyCall, wasSubmitted, wasClosed, wasFinished, waitsAs, stateOf, accepted, startsDone, doneAlone, against, newlyRecorded, shows, onlyHistory, observe, observeAll, broken, unbreakable, Holds, Extends, Grows, Keeps}
+use Rattle.plan.proofs.Tests.{clash, either, or-either, count-zero, or-both, and-left, and-right, any-none, any-some, any-found, all-at}
+use Rattle.plan.proofs.Fates.{open-is}
+use Rattle.scheduler.proofs.Laws.{fate-hold-same, fate-hold-other, plan-hold, closed-hold, broken-hold, lines-hold, broken-settle, fate-shut, broken-shut, lines-shut, closed-shut-same, closed-shut-other}
 use Rattle.scheduler.proofs.Branches.{submit-same, call-fault, call-accept}
-use Rattle.theory.proofs.Sound.{Sound}
-use Rattle.theory.proofs.Fresh.{sheet-first, sheet-sound}
-use Rattle.theory.proofs.Books.{Shape, Books, Tidy, same-events, shape-hold}
-use Rattle.theory.proofs.Keep.{Strict, unpaid}
-use Rattle.theory.proofs.Good.{Good, Resting, tidy-shut, strict-shut, close-good, finish-good}
-use Rattle.theory.proofs.Submit.{strict-hold, Recorded, alone-recorded, Manner, ordered, waited, alone, Handed, submit-good}
-use Rattle.theory.proofs.Coherent.{rule-holds, good-coherent}
-use Rattle.theory.proofs.Passes.{call-taken, fault-answer}
-use Rattle.theory.proofs.Shown.{Agrees, fates-observed, fate-observed, shown, alone-new, same-test, or-in, among-append, those-in, those-only}
+use Rattle.theory.proofs.SoundPlans.{Sound, step-low}
+use Rattle.theory.proofs.SheetPlans.{sheet-first, sheet-sound}
+use Rattle.theory.proofs.HistoryInvariant.{Shape, HistoryListed, BlankBeyond, same-events, shape-hold, beyond-hold}
+use Rattle.theory.proofs.RuleInvariant.{Strict, strict-same, unpaid}
+use Rattle.theory.proofs.Invariant.{FatesLater, Invariant, Resting, rules-shut, beyond-shut, close-keeps, finish-keeps}
+use Rattle.theory.proofs.Submission.{rules-hold, Recorded, alone-recorded, Manner, ordered, waited, alone, Submitted, submit-keeps}
+use Rattle.theory.proofs.InvariantCoherent.{rule-holds, invariant-coherent}
+use Rattle.theory.proofs.Coherence.{call-taken, fault-answer}
+use Rattle.theory.proofs.Observation.{Agrees, fates-observed, fate-observed, shown, alone-new, same-test, or-in, among-append, those-in, those-only}
 
 -- the invariant of a list: what is observed so far, and the state
-pub record At (p : Plan) (o : Observed) (s : State) : Type 0 where
-  pub good : Good p s
-  pub tidy : Tidy p s
+pub record ListInvariant (p : Plan) (o : Observed) (s : State) : Type 0 where
+  pub invariant : Invariant p s
+  pub beyond : BlankBeyond p s
   pub strict : Strict p s
   pub rest : Resting s
   pub agrees : Agrees o s
-  pub finished : o .finished ≡ true → (e : ℕ) → e < eventCount p → isSettled (fateOf s e) ≡ true
+  pub finished : wasFinished o ≡ true → (e : ℕ) → e < eventCount p → isSettled (fateOf s e) ≡ true
+
+-- an array of blanks reads blank, at its end and past it
+module _ {A : Type 0} (n : ℕ) (a : A) (i : ℕ) where
+  get-blank : getD (replicate n a) i a ≡ a
+  get-blank = elim (decLt i n) [
+    | yes lt ↦ getD-replicate n i a a lt
+    | no ge ↦ List·getD-eq-default (replicate n a) a {n = i} (omega (arith, length-replicate n a))
+  ]
+
+  read-blank : readAt n (replicate n a) i a ≡ a
+  read-blank = go (ltb i n)
+    where
+      go : (t : Bool) → cond t (getD (replicate n a) i a) a ≡ a
+      go true = get-blank
+      go false = refl
 
 -- the first state
 module _ (p : Plan) (sd : Sound p) where
-  read-blank : {A : Type 0} (n : ℕ) (a : A) (i : ℕ) → readAt n (replicate n a) i a ≡ a
-  read-blank n a i = elim (decLt i n) [ yes lt ↦ rw (lt-ltb i n lt, getD-replicate n i a a lt) | no ge ↦ rw (borrow.Author.Tests.le-ltb i n (omega arith)) ]
-
   all-open : (e : ℕ) → fateOf (firstState p) e ≡ Open
   all-open e = ap (λ (v : Standing). v .fate) (read-blank 16 blankStanding e)
 
@@ -55,12 +74,20 @@ module _ (p : Plan) (sd : Sound p) where
   none-done : (e : ℕ) → isDone (fateOf (firstState p) e) ≡ false
   none-done e = ap isDone (all-open e)
 
-  first-books : Books p (firstState p)
+  first-listing : HistoryListed p (firstState p)
   unfolding fatesIn declaredOnly
-  first-books = record {
-    shape = record { same-plan = refl; sized = record { standings-len = length-replicate 16 blankStanding; broken-len = length-replicate 16 false; closed-len = length-replicate 8 false; history-len = length-replicate 16 blankEntry } };
+  first-listing = record {
+    shape = record {
+      same-plan = refl;
+      sized = record {
+        standings-len = length-replicate 16 blankStanding;
+        broken-len = length-replicate 16 false;
+        closed-len = length-replicate 8 false;
+        history-len = length-replicate 16 blankEntry;
+      };
+    };
     few = sd .few-events;
-    tally = sym (count-zero (eventCount p) (λ e. isSettled (fateOf (firstState p) e)) (λ e l. ap isSettled (all-open e)));
+    tally = sym (count-zero (eventCount p) _ (λ e l. ap isSettled (all-open e)));
     listed = λ e l. sym (ap (λ x. fateIf (isSettled x) x) (all-open e));
     only = refl;
   }
@@ -71,97 +98,139 @@ module _ (p : Plan) (sd : Sound p) where
   first-unpaid (Need a b) = rw (none-done a)
   first-unpaid (Conditional a b c) = rw (none-done a)
 
-  first-owes : (r : Rule) → owes (firstState p) r ≡ false
+  first-owes : (r : Rule) → owes ((firstState p) .plan) (fateOf (firstState p)) r ≡ false
   unfolding owes
   first-owes (Order a b) = refl
   first-owes (Need a b) = rw (none-done a)
   first-owes (Conditional a b c) = rw (none-done a)
 
-  first-good : Good p (firstState p)
+  first-invariant : Invariant p (firstState p)
   unfolding doneInTurn
-  first-good = record {
-    books = first-books;
-    laws = record { turn = λ i a b l n r. refl; paid = λ i l n. first-unpaid (ruleAt p i) };
+  first-invariant = record {
+    listing = first-listing;
+    obeyed = record { turn = λ i a b l n r. refl; paid = λ i l n. first-unpaid (ruleAt p i) };
     quiet = λ i l n. first-owes (ruleAt p i);
     held = λ e l h. absurd (clash (ap isHeld h) (ap isHeld (all-open e)));
     still = λ e l q. read-blank 8 false (stepOf p e);
   }
 
-  pub at-first : At p nothingYet (firstState p)
-  unfolding among
+  pub at-first : ListInvariant p nothingYet (firstState p)
+  unfolding among anyCall
   at-first = record {
-    good = first-good;
-    tidy = record { unused = λ e ge. all-open e; blank = λ i ge. blank-line i };
-    strict = record { first = λ i a b l r d h. absurd (clash h (none-done b)); weak = λ i l n. absurd (clash n (unbroken i)) };
+    invariant = first-invariant;
+    beyond = record { unused = λ e ge. all-open e; blank = λ i ge. get-blank 16 blankEntry i };
+    strict = record {
+      first = λ i a b l r d h. absurd (clash h (none-done b));
+      weak = λ i l n. absurd (clash n (unbroken i));
+    };
     rest = λ e q h v. clash (ap isHeld h) (ap isHeld (all-open e));
-    agrees = record { history = refl; waits = λ e u. all-open e; closed = λ k l. read-blank 8 false k; recorded = λ i l. unbroken i };
+    agrees = record {
+      history = refl;
+      waits = λ e u. all-open e;
+      closed = λ k l. read-blank 8 false k;
+      recorded = λ i l. unbroken i;
+    };
     finished = λ w. absurd (clash w refl);
   }
-    where
-      blank-line : (i : ℕ) → getD (replicate 16 blankEntry) i blankEntry ≡ blankEntry
-      blank-line i = elim (decLt i 16) [ yes lt ↦ getD-replicate 16 i blankEntry blankEntry lt | no ge ↦ lib.ListN.List·getD-eq-default (replicate 16 blankEntry) blankEntry {n = i} (omega (arith, length-replicate 16 blankEntry)) ]
 
 -- what a call shows
-observe-no : (p : Plan) (o : Observed) (c : Call) (h : List Entry) → accepted p o c ≡ false → observe p o c h ≡ onlyHistory o h
+observe-no : (p : Plan) (o : Observed) (c : Call) (h : List Entry)
+    → accepted p o c ≡ false
+    → observe p o c h ≡ onlyHistory o h
 unfolding observe
 observe-no p o c h q = rw (q, observe)
 
-observe-yes : (p : Plan) (o : Observed) (c : Call) (h : List Entry) → accepted p o c ≡ true → observe p o c h ≡ shows p o c h
+observe-yes : (p : Plan) (o : Observed) (c : Call) (h : List Entry)
+    → accepted p o c ≡ true
+    → observe p o c h ≡ shows p o c h
 unfolding observe
 observe-yes p o c h q = rw (q, observe)
 
-recorded-no : (p : Plan) (o : Observed) (e : ℕ) (h : List Entry) → doneAlone p o e h ≡ false → newlyRecorded p o e h ≡ []
+recorded-no : (p : Plan) (o : Observed) (e : ℕ) (h : List Entry)
+    → doneAlone p o e h ≡ false
+    → newlyRecorded p o e h ≡ []
 unfolding newlyRecorded
 recorded-no p o e h q = rw (q, newlyRecorded)
 
-recorded-yes : (p : Plan) (o : Observed) (e : ℕ) (h : List Entry) → doneAlone p o e h ≡ true → newlyRecorded p o e h ≡ thoseBelow (ruleCount p) (against p (hold (stateOf p o) e) e)
+recorded-yes : (p : Plan) (o : Observed) (e : ℕ) (h : List Entry)
+    → doneAlone p o e h ≡ true
+    → newlyRecorded p o e h ≡ thoseBelow (ruleCount p) (against p (hold (stateOf p o) e) e)
 unfolding newlyRecorded
 recorded-yes p o e h q = rw (q, newlyRecorded)
 
 -- a call that is turned down shows the same history again
-at-kept : {p : Plan} {o : Observed} {s : State} → At p o s → At p (onlyHistory o (lines s)) s
-at-kept k = record { good = k .good; tidy = k .tidy; strict = k .strict; rest = k .rest; agrees = record { history = refl; waits = k .agrees .waits; closed = k .agrees .closed; recorded = k .agrees .recorded }; finished = k .finished }
+at-kept : {p : Plan} {o : Observed} {s : State} → ListInvariant p o s → ListInvariant p (onlyHistory o (lines s)) s
+at-kept k = record {
+  invariant = k .invariant;
+  beyond = k .beyond;
+  strict = k .strict;
+  rest = k .rest;
+  agrees = record {
+    history = refl;
+    waits = k .agrees .waits;
+    closed = k .agrees .closed;
+    recorded = k .agrees .recorded;
+  };
+  finished = k .finished;
+}
 
 -- the state after an accepted call, and its history
 record Step (p : Plan) (o : Observed) (s t : State) : Type 0 where
-  pub at : At p o t
+  pub at : ListInvariant p o t
   pub extends : Extends (lines s) (lines t)
 
-module _ {p : Plan} {o : Observed} {s : State} (sd : Sound p) (k : At p o s) where
+module _ {p : Plan} {o : Observed} {s : State} (sd : Sound p) (k : ListInvariant p o s) where
   sh : Shape p s
-  sh = k .good .books .shape
+  sh = k .invariant .listing .shape
 
-  finished-later : (t : State) → ((e : ℕ) → (isSettled (fateOf t e) ≡ true) ⊎ (fateOf t e ≡ fateOf s e)) → o .finished ≡ true → (e : ℕ) → e < eventCount p → isSettled (fateOf t e) ≡ true
+  finished-later : (t : State)
+      → FatesLater s t
+      → wasFinished o ≡ true
+      → (e : ℕ)
+      → e < eventCount p
+      → isSettled (fateOf t e) ≡ true
   finished-later t f w e l = elim (f e) [ inl z ↦ z | inr z ↦ ap isSettled z ∙ k .finished w e l ]
 
-  waits-later : (t : State) → ((e : ℕ) → (isSettled (fateOf t e) ≡ true) ⊎ (fateOf t e ≡ fateOf s e)) → (e : ℕ) → isSettled (fateOf t e) ≡ false → fateOf t e ≡ waitsAs (among e (o .submitted))
-  waits-later t f e u = elim (f e) [ inl z ↦ absurd (clash z u) | inr z ↦ z ∙ k .agrees .waits e (sym (ap isSettled z) ∙ u) ]
+  waits-later : (t : State)
+      → FatesLater s t
+      → (e : ℕ)
+      → isSettled (fateOf t e) ≡ false
+      → fateOf t e ≡ waitsAs (wasSubmitted o e)
+  waits-later t f e u = elim (f e) [
+    | inl z ↦ absurd (clash z u)
+    | inr z ↦ z ∙ k .agrees .waits e (sym (ap isSettled z) ∙ u)
+  ]
 
   -- closing
   hasEvent-same : (j : ℕ) → hasEvent (s .plan) j ≡ hasEvent p j
   hasEvent-same j = ap (λ q. hasEvent q j) (sh .same-plan)
 
   pub step-bound : (j : ℕ) → hasEvent p j ≡ true → j < 8
-  unfolding hasEvent soundEvent
+  unfolding hasEvent
   step-bound j h =
       let z = any-found (eventCount p) (λ e. eqb (stepOf p e) j) h in
-      let q : stepOf p (z .0) ≡ j = borrow.Author.Tests.eqb-true (stepOf p (z .0)) j (z .2) in
-      let b = ltb-false 7 (stepOf p (z .0)) (not-true (badStep (stepOf p (z .0))) (and-left (not (badStep (stepOf p (z .0)))) (not (Rattle.scheduler.specs.Rules.badAttributes (Rattle.scheduler.specs.State.attributesOf p (z .0)))) (sd .event (z .0) (z .1)))) in
-      omega arith
+      omega (arith, eqb-true (stepOf p (z .0)) j (z .2), step-low sd (z .0) (z .1))
 
-  shut-closed : (j : ℕ) → j < 8 → (i : ℕ) → i < 8 → closedAt (shut s j) i ≡ among i (j ∷ o .closedSteps)
-  unfolding among
-  shut-closed j l i m = elim (ℕ-discrete i j) [ yes r ↦ rw (eq-eqb i j r) (rw r (closed-shut-same s j (sh .sized) l)) | no ne ↦ rw (ne-eqb i j ne) (closed-shut-other s j i ne ∙ k .agrees .closed i m) ]
+  shut-closed : (j : ℕ) → j < 8 → (i : ℕ) → i < 8 → closedAt (shut s j) i ≡ anyCall (closes i) (Close j ∷ o .calls)
+  unfolding anyCall
+  shut-closed j l i m = elim (ℕ-discrete i j) [
+    | yes r ↦ rw (eq-eqb i j r) (rw r (closed-shut-same s j (sh .sized) l))
+    | no ne ↦ rw (ne-eqb i j ne) (closed-shut-other s j i ne ∙ k .agrees .closed i m)
+  ]
 
-  at-close : (j : ℕ) → j < 8 → Step p (shows p o (closing j) (lines (closeStep s j))) s (closeStep s j)
+  at-close : (j : ℕ) → j < 8 → Step p (shows p o (Close j) (lines (closeStep s j))) s (closeStep s j)
+  unfolding anyCall
   at-close j l =
-      let z = close-good sd (k .good) j in
-      let f : (e : ℕ) → (isSettled (fateOf (closeStep s j) e) ≡ true) ⊎ (fateOf (closeStep s j) e ≡ fateOf s e) = λ e. elim (z .later .fates e) [ inl y ↦ inl y | inr y ↦ inr (y ∙ fate-shut s j e) ] in
+      let z = close-keeps sd (k .invariant) j in
+      let f : FatesLater s (closeStep s j) = λ e. elim (z .later .fates e) [
+        | inl y ↦ inl y
+        | inr y ↦ inr (y ∙ fate-shut s j e)
+      ] in
       record {
         at = record {
-          good = z .good;
-          tidy = z .later .tidy (tidy-shut p s j (k .tidy));
-          strict = z .later .strict (strict-shut p s j (k .strict));
+          invariant = z .invariant;
+          beyond = z .later .beyond (beyond-shut j (k .beyond));
+          strict = z .later .strict (strict-same (rules-shut s j) (k .strict));
           rest = z .rest;
           agrees = record {
             history = refl;
@@ -174,6 +243,10 @@ module _ {p : Plan} {o : Observed} {s : State} (sd : Sound p) (k : At p o s) whe
         extends = (z .later .new, z .later .lines-new ∙ ap (λ h. h ++ z .later .new) (lines-shut s j));
       }
 
+  -- step j has no event, or is closed
+  abbrev passed : ℕ → Bool
+  passed j = not (hasEvent p j) || wasClosed o j
+
   -- winding up
   neither : (x : Fate) → (x ≡ Open → ⊥) → (x ≡ Held → ⊥) → isSettled x ≡ true
   neither Open a b = absurd (a refl)
@@ -184,31 +257,45 @@ module _ {p : Plan} {o : Observed} {s : State} (sd : Sound p) (k : At p o s) whe
 
   has-step : (e : ℕ) → e < eventCount p → hasEvent p (stepOf p e) ≡ true
   unfolding hasEvent
-  has-step e l = any-some (eventCount p) (λ j. eqb (stepOf p j) (stepOf p e)) e l (eq-eqb (stepOf p e) (stepOf p e) refl)
+  has-step e l =
+      any-some (eventCount p) (λ j. eqb (stepOf p j) (stepOf p e)) e l (eq-eqb (stepOf p e) (stepOf p e) refl)
 
-  at-finish : accepted p o finishing ≡ true → Step p (shows p o finishing (lines (finish s))) s (finish s)
-  unfolding accepted
+  at-finish : accepted p o Finish ≡ true → Step p (shows p o Finish (lines (finish s))) s (finish s)
+  unfolding accepted anyCall
   at-finish ok =
-      let z = finish-good sd (k .good) in
+      let z = finish-keeps sd (k .invariant) in
       let f = z .settled .later in
       record {
         at = record {
-          good = z .settled .good;
-          tidy = f .tidy (k .tidy);
+          invariant = z .settled .invariant;
+          beyond = f .beyond (k .beyond);
           strict = f .strict (k .strict);
           rest = z .settled .rest;
-          agrees = record { history = refl; waits = waits-later (finish s) (f .fates); closed = λ i m. f .same-closed i ∙ k .agrees .closed i m; recorded = λ i m. f .same-broken i ∙ k .agrees .recorded i m };
-          finished = λ w e l. neither (fateOf (finish s) e) (λ q. clash (f .same-closed (stepOf p e) ∙ k .agrees .closed (stepOf p e) (step-bound (stepOf p e) (has-step e l)) ∙ shut-there e l) (z .settled .good .still e l q)) (z .none-held e l);
+          agrees = record {
+            history = refl;
+            waits = waits-later (finish s) (f .fates);
+            closed = λ i m. f .same-closed i ∙ k .agrees .closed i m;
+            recorded = λ i m. f .same-broken i ∙ k .agrees .recorded i m;
+          };
+          finished = λ w e l.
+              let closed : closedAt (finish s) (stepOf p e) ≡ true =
+              f .same-closed (stepOf p e)
+              ∙ k .agrees .closed (stepOf p e) (step-low sd e l)
+              ∙ shut-there e l in
+              neither (fateOf (finish s) e) (λ q. clash closed (z .settled .invariant .still e l q)) (z .none-held e l);
         };
         extends = (f .new, f .lines-new);
       }
     where
-      shut-there : (e : ℕ) → e < eventCount p → among (stepOf p e) (o .closedSteps) ≡ true
-      shut-there e l = rw (has-step e l) at (all-at 8 (λ j. not (hasEvent p j) || among j (o .closedSteps)) ok (stepOf p e) (step-bound (stepOf p e) (has-step e l)))
+      shut-there : (e : ℕ) → e < eventCount p → wasClosed o (stepOf p e) ≡ true
+      shut-there e l = rw (has-step e l) at (all-at 8 passed ok (stepOf p e) (step-low sd e l))
 
   -- handing in: a further event among those handed in
-  waits-more : (e j : ℕ) (x : Fate) → (j ≡ e → x ≡ Held) → (j ≢ e → x ≡ waitsAs (among j (o .submitted))) → x ≡ waitsAs (among j (e ∷ o .submitted))
-  unfolding among
+  waits-more : (e j : ℕ) (x : Fate)
+      → (j ≡ e → x ≡ Held)
+      → (j ≢ e → x ≡ waitsAs (wasSubmitted o j))
+      → x ≡ waitsAs (anyCall (submits j) (Submit e ∷ o .calls))
+  unfolding anyCall
   waits-more e j x a b = elim (ℕ-discrete j e) [ yes r ↦ rw (eq-eqb j e r) (a r) | no ne ↦ rw (ne-eqb j e ne) (b ne) ]
 
   is-held : (x : Fate) → isOpen x ≡ false → isSettled x ≡ false → x ≡ Held
@@ -219,32 +306,46 @@ module _ {p : Plan} {o : Observed} {s : State} (sd : Sound p) (k : At p o s) whe
   is-held Lapsed a b = absurd (clash refl b)
 
   -- an event that is not open: nothing changes
-  at-same : (e : ℕ) → isOpen (fateOf s e) ≡ false → Step p (shows p o (submitting e) (lines s)) s s
+  at-same : (e : ℕ) → isOpen (fateOf s e) ≡ false → Step p (shows p o (Submit e) (lines s)) s s
+  unfolding anyCall
   at-same e q =
-      let none-new : newlyRecorded p o e (lines s) ≡ [] = recorded-no p o e (lines s) (ap (doneAlone p o e) (sym (append-nil (lines s))) ∙ alone-new (k .good .books) (k .tidy) (k .agrees) e [] ∙ rw q) in
+      let not-alone : doneAlone p o e (lines s) ≡ false =
+      ap (doneAlone p o e) (sym (append-nil (lines s)))
+      ∙ alone-new (k .invariant .listing) (k .beyond) (k .agrees) e []
+      ∙ rw q in
+      let none-new = recorded-no p o e (lines s) not-alone in
       record {
         at = record {
-          good = k .good;
-          tidy = k .tidy;
+          invariant = k .invariant;
+          beyond = k .beyond;
           strict = k .strict;
           rest = k .rest;
-          agrees = record { history = refl; waits = λ j u. waits-more e j (fateOf s j) (λ r. is-held (fateOf s j) (ap (λ i. isOpen (fateOf s i)) r ∙ q) u) (λ ne. k .agrees .waits j u); closed = k .agrees .closed; recorded = λ i l. k .agrees .recorded i l ∙ ap (λ n. among i (n ++ o .recorded)) (sym none-new) };
+          agrees = record {
+            history = refl;
+            waits = λ j u. waits-more e j (fateOf s j)
+                (λ r. is-held (fateOf s j) (ap (λ i. isOpen (fateOf s i)) r ∙ q) u) (λ ne. k .agrees .waits j u);
+            closed = k .agrees .closed;
+            recorded = λ i l. k .agrees .recorded i l ∙ ap (λ n. among i (n ++ o .recorded)) (sym none-new);
+          };
           finished = k .finished;
         };
         extends = ([], sym (append-nil (lines s)));
       }
 
   module _ (e : ℕ) (lt : e < eventCount p) (q : isOpen (fateOf s e) ≡ true) where
-    z : Handed p (hold s e) (submit s e) e
-    z = submit-good sd (k .good) e lt q
+    z : Submitted p (hold s e) (submit s e) e
+    z = submit-keeps sd (k .invariant) e lt q
 
     lines-after : lines (submit s e) ≡ lines s ++ z .new
     lines-after = z .lines-new ∙ ap (λ h. h ++ z .new) (lines-hold s e)
 
     alone-after : doneAlone p o e (lines (submit s e)) ≡ (startsDone (z .new) e && not (hasViable (hold s e) e))
-    alone-after = ap (doneAlone p o e) lines-after ∙ alone-new (k .good .books) (k .tidy) (k .agrees) e (z .new) ∙ rw q
+    alone-after =
+        ap (doneAlone p o e) lines-after ∙ alone-new (k .invariant .listing) (k .beyond) (k .agrees) e (z .new) ∙ rw q
 
-    waits-after : (j : ℕ) → isSettled (fateOf (submit s e) j) ≡ false → fateOf (submit s e) j ≡ waitsAs (among j (e ∷ o .submitted))
+    waits-after : (j : ℕ)
+        → isSettled (fateOf (submit s e) j) ≡ false
+        → fateOf (submit s e) j ≡ waitsAs (anyCall (submits j) (Submit e ∷ o .calls))
     waits-after j u = elim (z .fates j) [
       | inl v ↦ absurd (clash v u)
       | inr v ↦ waits-more e j (fateOf (submit s e) j)
@@ -255,7 +356,9 @@ module _ {p : Plan} {o : Observed} {s : State} (sd : Sound p) (k : At p o s) whe
     -- the rules recorded before and now
     against-strains : (i : ℕ) → against p (hold (stateOf p o) e) e i ≡ strains (hold s e) e i
     unfolding against strains
-    against-strains i = ap (λ t. against p (hold t e) e i) (sym (shown (k .good .books) (k .tidy) (k .agrees))) ∙ ap (λ v. not (brokenAt (hold s e) i) && (forbids (hold s e) (ruleAt v i) e || owes (settleAs Done (hold s e) e) (ruleAt v i))) (sym (plan-hold s e ∙ sh .same-plan))
+    against-strains i =
+        ap (λ t. against p (hold t e) e i) (sym (shown (k .invariant .listing) (k .beyond) (k .agrees)))
+        ∙ ap (λ v. against v (hold s e) e i) (sym (plan-hold s e ∙ sh .same-plan))
 
     r : Recorded p (ruleCount p) (hold s e) e (settleAs Done (hold s e) e) (doAlone (hold s e) e)
     r = alone-recorded sd (shape-hold s e sh) e
@@ -270,29 +373,53 @@ module _ {p : Plan} {o : Observed} {s : State} (sd : Sound p) (k : At p o s) whe
     alone-broken i l = same-test (brokenAt (doAlone (hold s e) e) i) (among i (news ++ o .recorded))
         (λ b. among-append i news (o .recorded) ∙ or-in (among i news) (among i (o .recorded)) (elim (r .only i b) [
           | inl y ↦ inr (sym (before i l) ∙ y)
-          | inr y ↦ inl (those-in (ruleCount p) (against p (hold (stateOf p o) e) e) i (y .0) (against-strains i ∙ y .1))
+          | inr y ↦
+              inl (those-in (ruleCount p) (against p (hold (stateOf p o) e) e) i (y .0) (against-strains i ∙ y .1))
         ]))
         (λ a. elim (or-either (among i news) (among i (o .recorded)) (sym (among-append i news (o .recorded)) ∙ a)) [
-          | inl y ↦ let v = those-only (ruleCount p) (against p (hold (stateOf p o) e) e) i y in r .new i (v .0) (sym (against-strains i) ∙ v .1)
+          | inl y ↦
+              let v = those-only (ruleCount p) (against p (hold (stateOf p o) e) e) i y in
+              r .new i (v .0) (sym (against-strains i) ∙ v .1)
           | inr y ↦ r .kept i (before i l ∙ y)
         ])
 
-    recorded-same : doneAlone p o e (lines (submit s e)) ≡ false → ((i : ℕ) → brokenAt (submit s e) i ≡ brokenAt (hold s e) i) → (i : ℕ) → i < 16 → brokenAt (submit s e) i ≡ among i (newlyRecorded p o e (lines (submit s e)) ++ o .recorded)
-    recorded-same d b i l = b i ∙ broken-hold s e i ∙ k .agrees .recorded i l ∙ ap (λ n. among i (n ++ o .recorded)) (sym (recorded-no p o e (lines (submit s e)) d))
+    recorded-same : doneAlone p o e (lines (submit s e)) ≡ false
+        → ((i : ℕ) → brokenAt (submit s e) i ≡ brokenAt (hold s e) i)
+        → (i : ℕ)
+        → i < 16
+        → brokenAt (submit s e) i ≡ among i (newlyRecorded p o e (lines (submit s e)) ++ o .recorded)
+    recorded-same d b i l =
+        b i
+        ∙ broken-hold s e i
+        ∙ k .agrees .recorded i l
+        ∙ ap (λ n. among i (n ++ o .recorded)) (sym (recorded-no p o e (lines (submit s e)) d))
 
-    by-manner : Manner (hold s e) (submit s e) e (z .new) → (i : ℕ) → i < 16 → brokenAt (submit s e) i ≡ among i (newlyRecorded p o e (lines (submit s e)) ++ o .recorded)
+    by-manner : Manner (hold s e) (submit s e) e (z .new)
+        → (i : ℕ)
+        → i < 16
+        → brokenAt (submit s e) i ≡ among i (newlyRecorded p o e (lines (submit s e)) ++ o .recorded)
     by-manner (ordered h b) = recorded-same (alone-after ∙ rw h (and-false (startsDone (z .new) e))) b
     by-manner (waited h b) = recorded-same (alone-after ∙ rw h) b
-    by-manner (alone h d b) = λ i l. b i ∙ alone-broken i l ∙ ap (λ n. among i (n ++ o .recorded)) (sym (recorded-yes p o e (lines (submit s e)) (alone-after ∙ rw (h, d))))
+    by-manner (alone h d b) =
+        λ i l. b i
+        ∙ alone-broken i l
+        ∙ ap (λ n. among i (n ++ o .recorded))
+        (sym (recorded-yes p o e (lines (submit s e)) (alone-after ∙ rw (h, d))))
 
-    at-submit : Step p (shows p o (submitting e) (lines (submit s e))) s (submit s e)
+    at-submit : Step p (shows p o (Submit e) (lines (submit s e))) s (submit s e)
+    unfolding anyCall
     at-submit = record {
       at = record {
-        good = z .good;
-        tidy = z .tidy (Rattle.theory.proofs.Books.tidy-hold e (k .good .books) lt (open-is (fateOf s e) q) (k .tidy));
-        strict = z .strict (strict-hold e (k .good .books) lt (open-is (fateOf s e) q) (k .strict));
+        invariant = z .invariant;
+        beyond = z .beyond (beyond-hold e (k .invariant .listing) lt (open-is (fateOf s e) q) (k .beyond));
+        strict = z .strict (strict-same (rules-hold e (k .invariant .listing) lt (open-is (fateOf s e) q)) (k .strict));
         rest = z .rest;
-        agrees = record { history = refl; waits = waits-after; closed = λ j l. z .same-closed j ∙ closed-hold s e j ∙ k .agrees .closed j l; recorded = by-manner (z .manner) };
+        agrees = record {
+          history = refl;
+          waits = waits-after;
+          closed = λ j l. z .same-closed j ∙ closed-hold s e j ∙ k .agrees .closed j l;
+          recorded = by-manner (z .manner);
+        };
         finished = λ w. absurd (clash (k .finished w e lt) (ap isSettled (open-is (fateOf s e) q)));
       };
       extends = (z .new, lines-after);
@@ -300,66 +427,85 @@ module _ {p : Plan} {o : Observed} {s : State} (sd : Sound p) (k : At p o s) whe
 
   -- accepted is what the table says
   coh : coherent s ≡ true
-  coh = good-coherent sd (k .good)
+  coh = invariant-coherent sd (k .invariant)
 
-  opens : (j : ℕ) → j < 8 → (hasEvent (s .plan) j && not (closedAt s j)) ≡ not (not (hasEvent p j) || among j (o .closedSteps))
-  opens j l = rw (hasEvent-same j, k .agrees .closed j l) (de-morgan (hasEvent p j) (among j (o .closedSteps)))
+  opens : (j : ℕ) → j < 8 → unclosedAt s j ≡ not (passed j)
+  opens j l = rw (hasEvent-same j, k .agrees .closed j l) (de-morgan (hasEvent p j) (wasClosed o j))
     where
       de-morgan : (a b : Bool) → (a && not b) ≡ not (not a || b)
       de-morgan true b = refl
       de-morgan false b = refl
 
-  some-open : (n : ℕ) → n ≤ 8 → allBelow n (λ j. not (hasEvent p j) || among j (o .closedSteps)) ≡ false → anyBelow n (λ j. hasEvent (s .plan) j && not (closedAt s j)) ≡ true
+  some-open : (n : ℕ) → n ≤ 8 → allBelow n passed ≡ false → anyBelow n (unclosedAt s) ≡ true
   unfolding allBelow anyBelow
   some-open zero le h = absurd (clash refl h)
-  some-open (suc n) le h = elim (either (not (hasEvent p n) || among n (o .closedSteps))) [
+  some-open (suc n) le h = elim (either (passed n)) [
     | inr y ↦ rw (opens n (omega arith), y)
     | inl y ↦ rw (opens n (omega arith), y) (some-open n (omega arith) (rw y at h))
   ]
 
   pub accepted-fault : (c : Call) → accepted p o c ≡ true → callFault s c ≡ none
   unfolding accepted callFault firstFault
-  accepted-fault (submitting e) h = rw (coh, lt-leb (eventCount (s .plan)) e (omega (arith, ltb-true e (eventCount p) h, same-events sh)))
-  accepted-fault (closing j) h =
-      let a = and-left (hasEvent p j) (not (among j (o .closedSteps))) h in
-      let b = not-true (among j (o .closedSteps)) (and-right (hasEvent p j) (not (among j (o .closedSteps))) h) in
+  accepted-fault (Submit e) h =
+      rw (coh, lt-leb (eventCount (s .plan)) e (omega (arith, ltb-true e (eventCount p) h, same-events sh)))
+  accepted-fault (Close j) h =
+      let a = and-left (hasEvent p j) (not (wasClosed o j)) h in
+      let b = not-true (wasClosed o j) (and-right (hasEvent p j) (not (wasClosed o j)) h) in
       rw (coh, hasEvent-same j, a, k .agrees .closed j (step-bound j a), b)
-  accepted-fault finishing h = rw (coh, any-none 8 (λ j. hasEvent (s .plan) j && not (closedAt s j)) (λ j l. opens j l ∙ ap not (all-at 8 (λ j. not (hasEvent p j) || among j (o .closedSteps)) h j l)))
+  accepted-fault Finish h = rw (coh, any-none 8 (unclosedAt s) (λ j l. opens j l ∙ ap not (all-at 8 passed h j l)))
 
-  pub refused-fault : (c : Call) → accepted p o c ≡ false → (f : Fault) × (callFault s c ≡ some f)
+  pub refused-fault : (c : Call) → accepted p o c ≡ false → (f : CallFault) × (callFault s c ≡ some f)
   unfolding accepted callFault firstFault
-  refused-fault (submitting e) h = (Unknown, rw (coh, le-leb (eventCount (s .plan)) e (omega (arith, ltb-false e (eventCount p) h, same-events sh))))
-  refused-fault (closing j) h = go (hasEvent p j) refl
+  refused-fault (Submit e) h = (
+    Unknown,
+    rw (coh, le-leb (eventCount (s .plan)) e (omega (arith, ltb-false e (eventCount p) h, same-events sh))),
+  )
+  refused-fault (Close j) h = go (hasEvent p j) refl
     where
-      go : (b : Bool) → hasEvent p j ≡ b → (f : Fault) × (callFault s (closing j) ≡ some f)
+      go : (b : Bool) → hasEvent p j ≡ b → (f : CallFault) × (callFault s (Close j) ≡ some f)
       go false q = (Unknown, rw (coh, hasEvent-same j, q))
-      go true q = (AlreadyClosed, rw (coh, hasEvent-same j, q, k .agrees .closed j (step-bound j q), borrow.Author.Tests.not-false (among j (o .closedSteps)) (rw q at h)))
-  refused-fault finishing h = (NotClosed, rw (coh, some-open 8 (omega arith) h))
+      go true q = (
+        AlreadyClosed,
+        rw (coh, hasEvent-same j, q, k .agrees .closed j (step-bound j q), not-false (wasClosed o j) (rw q at h)),
+      )
+  refused-fault Finish h = (NotClosed, rw (coh, some-open 8 (omega arith) h))
 
   -- an accepted call
-  at-accept : (c : Call) → accepted p o c ≡ true → Step p (shows p o c (lines (accept s c .state))) s (accept s c .state)
+  at-accept : (c : Call)
+      → accepted p o c ≡ true
+      → Step p (shows p o c (lines (accept s c .state))) s (accept s c .state)
   unfolding accept accepted
-  at-accept (submitting e) h = go (isOpen (fateOf s e)) refl
+  at-accept (Submit e) h = go (isOpen (fateOf s e)) refl
     where
       lt : e < eventCount p
       lt = ltb-true e (eventCount p) h
 
-      go : (b : Bool) → isOpen (fateOf s e) ≡ b → Step p (shows p o (submitting e) (lines (submit s e))) s (submit s e)
+      go : (b : Bool) → isOpen (fateOf s e) ≡ b → Step p (shows p o (Submit e) (lines (submit s e))) s (submit s e)
       go true q = at-submit e lt q
-      go false q = subst (λ t. Step p (shows p o (submitting e) (lines t)) s t) (sym (submit-same s e q)) (at-same e q)
-  at-accept (closing j) h = at-close j (step-bound j (and-left (hasEvent p j) (not (among j (o .closedSteps))) h))
-  at-accept finishing h = at-finish h
+      go false q = subst (λ t. Step p (shows p o (Submit e) (lines t)) s t) (sym (submit-same s e q)) (at-same e q)
+  at-accept (Close j) h = at-close j (step-bound j (and-left (hasEvent p j) (not (wasClosed o j)) h))
+  at-accept Finish h = at-finish h
 
   -- any call
   step : (c : Call) → Step p (observe p o c (lines (call s c .state))) s (call s c .state)
   step c = go (accepted p o c) refl
     where
-      to : (t : State) (v : Observed) → call s c .state ≡ t → observe p o c (lines t) ≡ v → Step p v s t → Step p (observe p o c (lines (call s c .state))) s (call s c .state)
+      to : (t : State) (v : Observed)
+          → call s c .state ≡ t
+          → observe p o c (lines t) ≡ v
+          → Step p v s t
+          → Step p (observe p o c (lines (call s c .state))) s (call s c .state)
       to t v a b w = subst (λ x. Step p (observe p o c (lines x)) s x) (sym a) (subst (λ x. Step p x s t) (sym b) w)
 
       go : (b : Bool) → accepted p o c ≡ b → Step p (observe p o c (lines (call s c .state))) s (call s c .state)
-      go true h = to (accept s c .state) (shows p o c (lines (accept s c .state))) (ap (λ (y : Reply). y .state) (call-accept s c (accepted-fault c h))) (observe-yes p o c (lines (accept s c .state)) h) (at-accept c h)
-      go false h = let f = refused-fault c h in to s (onlyHistory o (lines s)) (ap (λ (y : Reply). y .state) (call-fault s c (f .0) (f .1))) (observe-no p o c (lines s) h) (record { at = at-kept k; extends = ([], sym (append-nil (lines s))) })
+      go true h =
+          to (accept s c .state) (shows p o c (lines (accept s c .state)))
+          (ap (λ (y : Reply). y .state) (call-accept s c (accepted-fault c h)))
+          (observe-yes p o c (lines (accept s c .state)) h) (at-accept c h)
+      go false h =
+          let f = refused-fault c h in
+          to s (onlyHistory o (lines s)) (ap (λ (y : Reply). y .state) (call-fault s c (f .0) (f .1)))
+          (observe-no p o c (lines s) h) (record { at = at-kept k; extends = ([], sym (append-nil (lines s))) })
 
   -- the answer is a refusal exactly where the call is not accepted
   pub answer-accepted : (c : Call) → isTurnedDown (call s c .answer) ≡ not (accepted p o c)
@@ -370,12 +516,20 @@ module _ {p : Plan} {o : Observed} {s : State} (sd : Sound p) (k : At p o s) whe
       go false h = let f = refused-fault c h in ap isTurnedDown (fault-answer s c (f .0) (f .1)) ∙ sym (ap not h)
 
 -- a whole list
-pub at-after : {p : Plan} → Sound p → (cs : List Call) {o : Observed} {s : State} → At p o s → At p (observeAll p o (seen scheduler s cs)) (after scheduler s cs)
+pub at-after : {p : Plan}
+    → Sound p
+    → (cs : List Call) {o : Observed} {s : State}
+    → ListInvariant p o s
+    → ListInvariant p (observeAll p o (seen scheduler s cs)) (after scheduler s cs)
 unfolding observeAll seen after
 at-after sd [] k = k
 at-after sd (c ∷ cs) k = at-after sd cs (step sd k c .at)
 
-grows-after : {p : Plan} → Sound p → (cs : List Call) {o : Observed} {s : State} → At p o s → Grows (lines s) (seen scheduler s cs)
+grows-after : {p : Plan}
+    → Sound p
+    → (cs : List Call) {o : Observed} {s : State}
+    → ListInvariant p o s
+    → Grows (lines s) (seen scheduler s cs)
 unfolding seen
 grows-after sd [] k = tt
 grows-after sd (c ∷ cs) k = (step sd k c .extends, grows-after sd cs (step sd k c .at))
@@ -384,47 +538,61 @@ one-short : (b : Bool) (x : Fate) → length (fateIf b x) ≤ 1
 one-short true x = omega arith
 one-short false x = omega arith
 
-module _ {p : Plan} {o : Observed} {s : State} (sd : Sound p) (k : At p o s) where
-  bk : Books p s
-  bk = k .good .books
+module _ {p : Plan} {o : Observed} {s : State} (sd : Sound p) (k : ListInvariant p o s) where
+  bk : HistoryListed p s
+  bk = k .invariant .listing
 
   unrecorded : (i : ℕ) → i < ruleCount p → among i (o .recorded) ≡ false → brokenAt s i ≡ false
   unrecorded i l m = k .agrees .recorded i (omega (arith, sd .few-rules)) ∙ m
 
   holding-all : (i : ℕ) → i < ruleCount p → among i (o .recorded) ≡ false → holds (o .history) (ruleAt p i) ≡ true
-  holding-all i l m = ap (λ h. holds h (ruleAt p i)) (k .agrees .history) ∙ rule-holds sd (k .good) i l (unrecorded i l m)
+  holding-all i l m =
+      ap (λ h. holds h (ruleAt p i)) (k .agrees .history) ∙ rule-holds sd (k .invariant) i l (unrecorded i l m)
 
   kept-all : (i : ℕ) → i < ruleCount p → unbreakable p (ruleAt p i) ≡ true → broken p o i ≡ false
   unfolding broken
   kept-all i l u =
-      let m : among i (o .recorded) ≡ false = elim (either (among i (o .recorded))) [ inr z ↦ z | inl z ↦ absurd (clash u (k .strict .weak i l (k .agrees .recorded i (omega (arith, sd .few-rules)) ∙ z))) ] in
+      let m : among i (o .recorded) ≡ false = elim (either (among i (o .recorded))) [
+        | inr z ↦ z
+        | inl z ↦ absurd (clash u (k .strict .weak i l (k .agrees .recorded i (omega (arith, sd .few-rules)) ∙ z)))
+      ] in
       or-both (among i (o .recorded)) (not (holds (o .history) (ruleAt p i))) m (ap not (holding-all i l m))
 
   pub at-holds : Holds p o s
   at-holds = record {
-    once = λ e. subst (λ f. length f ≤ 1) (sym (fates-observed bk (k .tidy) (k .agrees) e)) (one-short (isSettled (fateOf s e)) (fateOf s e));
+    once = λ e. subst (λ f. length f ≤ 1) (sym (fates-observed bk (k .beyond) (k .agrees) e))
+        (one-short (isSettled (fateOf s e)) (fateOf s e));
     kept = kept-all;
     holding = holding-all;
-    waiting = λ e q h v. k .rest e q (sym (fate-observed bk (k .tidy) (k .agrees) e) ∙ h) (subst (λ t. Viable t e q) (sym (shown bk (k .tidy) (k .agrees))) v);
-    settled = λ w e l. ap isSettled (fate-observed bk (k .tidy) (k .agrees) e) ∙ k .finished w e l;
-    shown = shown bk (k .tidy) (k .agrees);
-    coherent-end = good-coherent sd (k .good);
+    waiting = λ e q h v. k .rest e q (sym (fate-observed bk (k .beyond) (k .agrees) e) ∙ h)
+        (subst (λ t. Viable t e q) (sym (shown bk (k .beyond) (k .agrees))) v);
+    settled = λ w e l. ap isSettled (fate-observed bk (k .beyond) (k .agrees) e) ∙ k .finished w e l;
+    shown = shown bk (k .beyond) (k .agrees);
+    coherent-end = invariant-coherent sd (k .invariant);
   }
 
 -- the invariant after any list on an admitted sheet
-pub at-list : (bytes : List ℕ) (s : State) (cs : List Call) → readSheet bytes ≡ admitted s → At (s .plan) (observeAll (s .plan) nothingYet (seen scheduler s cs)) (after scheduler s cs)
+pub at-list : (bytes : List ℕ) (s : State) (cs : List Call)
+    → readSheet bytes ≡ admitted s
+    → ListInvariant (s .plan) (observeAll (s .plan) nothingYet (seen scheduler s cs)) (after scheduler s cs)
 at-list bytes s cs read =
     let sd = sheet-sound bytes s read in
-    at-after sd cs (subst (At (s .plan) nothingYet) (sym (sheet-first bytes s read)) (at-first (s .plan) sd))
+    at-after sd cs (subst (ListInvariant (s .plan) nothingYet) (sym (sheet-first bytes s read)) (at-first (s .plan) sd))
 
 -- demand 3
 pub demand3 : Keeps scheduler
 demand3 bytes s cs read =
     let sd = sheet-sound bytes s read in
     let f = sheet-first bytes s read in
-    let k = subst (At (s .plan) nothingYet) (sym f) (at-first (s .plan) sd) in
-    record { claim = at-holds sd (at-after sd cs k); grows = subst (λ h. Grows h (seen scheduler s cs)) (sym (k .agrees .history)) (grows-after sd cs k) }
+    let k = subst (ListInvariant (s .plan) nothingYet) (sym f) (at-first (s .plan) sd) in
+    record {
+      claim = at-holds sd (at-after sd cs k);
+      grows = subst (λ h. Grows h (seen scheduler s cs)) (sym (k .agrees .history)) (grows-after sd cs k);
+    }
 
 -- in a list, the answer to a call is a refusal exactly where the call is not accepted
-pub answers-accepted : (bytes : List ℕ) (s : State) (cs : List Call) (c : Call) → readSheet bytes ≡ admitted s → isTurnedDown (call (after scheduler s cs) c .answer) ≡ not (accepted (s .plan) (observeAll (s .plan) nothingYet (seen scheduler s cs)) c)
+pub answers-accepted : (bytes : List ℕ) (s : State) (cs : List Call) (c : Call)
+    → readSheet bytes ≡ admitted s
+    → isTurnedDown (call (after scheduler s cs) c .answer)
+    ≡ not (accepted (s .plan) (observeAll (s .plan) nothingYet (seen scheduler s cs)) c)
 answers-accepted bytes s cs c read = answer-accepted (sheet-sound bytes s read) (at-list bytes s cs read) c

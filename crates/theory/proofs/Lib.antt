@@ -1,13 +1,14 @@
+-- The theorems about the definitions of `plan` and `scheduler`.
 pub mod Types
-pub mod Sound
-pub mod Fresh
-pub mod Decoded
-pub mod Books
-pub mod Keep
-pub mod Good
-pub mod Submit
-pub mod Coherent
-pub mod Passes
-pub mod Shown
+pub mod Conjunctions
+pub mod SoundPlans
+pub mod SheetPlans
+pub mod HistoryInvariant
+pub mod RuleInvariant
+pub mod Invariant
+pub mod Submission
+pub mod InvariantCoherent
+pub mod Coherence
+pub mod Observation
 pub mod Demands
 pub mod Worthless

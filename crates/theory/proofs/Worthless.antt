@@ -1,4 +1,4 @@
--- Worthless schedulers break the statements.
+-- Worthless schedulers break the statements: each is refuted on a short list, by computation.
 use Prim.Native.Nat.{ℕ}
 use native.Mathlib.Omega.{arith}
 use mathlib.Core.Bool.{Bool, true, false, not, _&&_}
@@ -6,16 +6,26 @@ use mathlib.Core.List.{List, [], _∷_, List·Memᴰ·not-nil, List·Memᴰ·hea
 use mathlib.Core.Option.{none, some}
 use mathlib.Core.Logic.{_≢_, inl, inr}
 use mathlib.Core.Path.{_≡_, refl, sym, _∙_, ap, subst}
-use Rattle.theory.proofs.Types.{Done, Refused, Order, State}
-use Rattle.scheduler.specs.Base.{anyBelow, allBelow, thoseBelow, among, firstOf, tabulate, lowest}
-use Rattle.scheduler.specs.State.{emptyPlan, firstState, emptyState, eventCount, ruleCount, isOpen, fateOf, closedAt, rejectable, delayable, hold, settleAs, shut}
-use Rattle.scheduler.specs.Rules.{named, enforceable, soundEvent, bars, makesWait, forbids, barred, forbidden, owing, fatesIn}
-use Rattle.scheduler.specs.Orders.{ready, mayDo, doAll, Viable, orderOf, chosen, someOrder, hasViable}
+use Rattle.theory.proofs.Types.{Done, Refused, Order, State, Call, Submit, Close, Finish}
+use Rattle.plan.specs.Base.{anyBelow, allBelow, thoseBelow, among, firstOf, tabulate, lowest}
+use Rattle.plan.specs.Plans.{emptyPlan, eventCount, ruleCount, rejectable, delayable, hasEvent}
+use Rattle.scheduler.specs.State.{firstState, emptyState, fateOf, closedAt, hold, settleAs, shut, Sized}
+use Rattle.plan.specs.Fates.{isOpen}
+use Rattle.plan.specs.Rules.{named, enforceable, soundEvent, bars, makesWait, forbids, ready}
+use Rattle.scheduler.specs.Rules.{barred, forbidden, owing}
+use Rattle.plan.specs.Histories.{fatesIn, declaredOnly, sameFates, listedAs}
+use Rattle.scheduler.specs.Orders.{mayDo, doAll, Viable, orderOf, chosen, someOrder, hasViable}
 use Rattle.scheduler.specs.Calls.{toRefuse, toDo, settleOnce, settleUpTo, settle, doAlone, submit}
-use Rattle.scheduler.specs.Faults.{firstFault, declaredOnly, sameFates, listed, coherentEvent, coherent, Call, submitting, closing, finishing, hasEvent, callFault, accept, call}
-use Rattle.scheduler.specs.Sheet.{ruleOf, addEvent, addRule, declare, recordFault, ending, readFrom, readPlan, admitted, readSheet}
-use Rattle.scheduler.specs.Demand.{Scheduler, after, seen, Observed, nothingYet, Holds, observedFate, stateOf, accepted, startsDone, doneAlone, against, newlyRecorded, observe, observeAll, broken, unbreakable, Keeps, scheduler, Ground, by-bar, by-hand, by-end, Trail, end, held, ordered, alone, refused, shuts, lapsed, Sized, Grounded}
-use Rattle.scheduler.proofs.Tests.{clash, any-none}
+use Rattle.plan.specs.Faults.{firstFault}
+use Rattle.scheduler.specs.Coherent.{coherentEvent, coherent}
+use Rattle.scheduler.specs.Answers.{callFault, accept, call}
+use Rattle.plan.specs.Records.{ruleOf, addEvent, addRule, declare, recordFault}
+use Rattle.plan.specs.Sheets.{readFrom, readPlan, ending, sheetPlan}
+use Rattle.scheduler.specs.Sheet.{admitted, readSheet}
+use Rattle.scheduler.specs.Lists.{Scheduler, after, scheduler}
+use Rattle.scheduler.specs.Demand.{seen, Observed, nothingYet, anyCall, Holds, observedFate, stateOf, accepted, startsDone, doneAlone, against, newlyRecorded, observe, observeAll, broken, unbreakable, Keeps}
+use Rattle.scheduler.specs.Grounds.{Ground, by-bar, by-submission, by-finish, Trail, end, held, ordered, alone, refused, shuts, lapsed, Grounded}
+use Rattle.plan.proofs.Tests.{clash, any-none}
 use Rattle.scheduler.proofs.Laws.{plan-hold, plan-settle, sized-hold, sized-settle, fate-hold-same, fate-settle-either}
 
 -- sheets of one event that is rejectable and delayable, and of two with an order
@@ -32,47 +42,59 @@ abbrev two : State
 two = firstState (addRule (addEvent (addEvent emptyPlan 0 6) 0 6) (Order 0 1))
 
 read-one : readSheet oneEvent ≡ admitted one
-unfolding addEvent declare recordFault ending readFrom readPlan readSheet firstFault
+unfolding addEvent declare recordFault readFrom readPlan ending sheetPlan readSheet firstFault
 read-one = refl
 
 read-two : readSheet twoInOrder ≡ admitted two
-unfolding addEvent addRule declare recordFault ending readFrom readPlan readSheet firstFault named enforceable ruleOf
+unfolding addEvent addRule declare recordFault readFrom readPlan ending sheetPlan readSheet firstFault named
+    enforceable ruleOf
 read-two = refl
 
 -- what a scheduler's story shows; to unfold it is to unfold all that demand 3 computes
 shownBy : Scheduler → State → List Call → Observed
-unfolding addEvent addRule after seen anyBelow allBelow thoseBelow among tabulate hold settleAs shut bars makesWait forbids barred forbidden owing fatesIn ready mayDo someOrder hasViable hasEvent observedFate stateOf accepted startsDone doneAlone against newlyRecorded observe observeAll broken unbreakable
+unfolding addEvent addRule after seen anyBelow allBelow thoseBelow among tabulate hold settleAs shut bars
+    makesWait forbids barred forbidden owing fatesIn ready mayDo someOrder hasViable hasEvent anyCall
+    observedFate stateOf accepted startsDone doneAlone against newlyRecorded observe observeAll broken
+    unbreakable
 shownBy step s cs = observeAll (s .plan) nothingYet (seen step s cs)
 
 -- demand 3 on the sheet of one event
-on-one : (step : Scheduler) → Keeps step → (cs : List Call) → Holds (one .plan) (shownBy step one cs) (after step one cs)
+on-one : (step : Scheduler)
+    → Keeps step
+    → (cs : List Call)
+    → Holds (one .plan) (shownBy step one cs) (after step one cs)
 unfolding shownBy
 on-one step k cs = k oneEvent one cs read-one .claim
 
 -- the event, handed in and not in the history, has a viable order
-viable-one : Viable (stateOf (one .plan) (record { submitted = 0 ∷ []; closedSteps = []; finished = false; recorded = []; history = [] })) 0 (0 ∷ [])
+viable-one : Viable (stateOf (one .plan) (record { calls = Submit 0 ∷ []; recorded = []; history = [] })) 0 (0 ∷ [])
 unfolding shownBy
-viable-one = record { contains = List·Memᴰ·head refl; short = omega arith; different = (λ m. List·Memᴰ·not-nil m, tt); runs = (omega arith, refl, refl) }
+viable-one = record {
+  contains = List·Memᴰ·head refl;
+  short = omega arith;
+  different = (λ m. List·Memᴰ·not-nil m, tt);
+  runs = (omega arith, refl, refl);
+}
 
 -- holds every event
 abbrev pub holder : Scheduler
-holder s (submitting e) = hold s e
-holder s (closing k) = scheduler s (closing k)
-holder s finishing = scheduler s finishing
+holder s (Submit e) = hold s e
+holder s (Close k) = scheduler s (Close k)
+holder s Finish = scheduler s Finish
 
 pub not-holder : Keeps holder → ⊥
 unfolding shownBy
-not-holder k = on-one holder k (submitting 0 ∷ []) .waiting 0 (0 ∷ []) refl viable-one
+not-holder k = on-one holder k (Submit 0 ∷ []) .waiting 0 (0 ∷ []) refl viable-one
 
 -- gives done to all
 abbrev pub doer : Scheduler
-doer s (submitting e) = settleAs Done s e
-doer s (closing k) = scheduler s (closing k)
-doer s finishing = scheduler s finishing
+doer s (Submit e) = settleAs Done s e
+doer s (Close k) = scheduler s (Close k)
+doer s Finish = scheduler s Finish
 
 pub not-doer : Keeps doer → ⊥
 unfolding shownBy
-not-doer k = clash refl (k twoInOrder two (submitting 1 ∷ submitting 0 ∷ []) read-two .claim .kept 0 (omega arith) refl)
+not-doer k = clash refl (k twoInOrder two (Submit 1 ∷ Submit 0 ∷ []) read-two .claim .kept 0 (omega arith) refl)
 
 -- hands its state back untouched
 abbrev pub idle : Scheduler
@@ -80,11 +102,12 @@ idle s c = s
 
 pub not-idle : Keeps idle → ⊥
 unfolding shownBy
-not-idle k = clash refl (ap (λ (s : State). isOpen (fateOf s 0)) (on-one idle k (submitting 0 ∷ []) .shown))
+not-idle k = clash refl (ap (λ (s : State). isOpen (fateOf s 0)) (on-one idle k (Submit 0 ∷ []) .shown))
 
 -- the true scheduler; to unfold it is to unfold all that its calls compute
 scheduled : State → Call → State
-unfolding soundEvent firstOf lowest orderOf chosen doAll toRefuse toDo settleOnce settleUpTo settle submit firstFault declaredOnly sameFates listed coherentEvent coherent callFault accept call
+unfolding soundEvent firstOf lowest orderOf chosen doAll toRefuse toDo settleOnce settleUpTo settle submit
+    firstFault declaredOnly sameFates listedAs coherentEvent coherent callFault accept call
 scheduled s c = call s c .state
 
 -- no event is handed in and no step is closed
@@ -97,17 +120,21 @@ once-only s c = elim (untouched s) [ true ↦ scheduler s c | false ↦ s ]
 
 pub not-once-only : Keeps once-only → ⊥
 unfolding shownBy scheduled untouched once-only
-not-once-only k = clash refl (ap (λ (s : State). not (closedAt s 0)) (on-one once-only k (submitting 0 ∷ closing 0 ∷ []) .shown))
+not-once-only k =
+    clash refl (ap (λ (s : State). not (closedAt s 0)) (on-one once-only k (Submit 0 ∷ Close 0 ∷ []) .shown))
 
 -- reports "no order" before looking
 unfoldable pub orderless : Scheduler
-orderless s (submitting e) = elim (delayable (s .plan) e) [ true ↦ hold s e | false ↦ elim (rejectable (s .plan) e) [ true ↦ settleAs Refused (hold s e) e | false ↦ doAlone (hold s e) e ] ]
-orderless s (closing k) = scheduler s (closing k)
-orderless s finishing = scheduler s finishing
+orderless s (Submit e) = elim (delayable (s .plan) e) [
+  | true ↦ hold s e
+  | false ↦ elim (rejectable (s .plan) e) [ true ↦ settleAs Refused (hold s e) e | false ↦ doAlone (hold s e) e ]
+]
+orderless s (Close k) = scheduler s (Close k)
+orderless s Finish = scheduler s Finish
 
 pub not-orderless : Keeps orderless → ⊥
 unfolding shownBy orderless
-not-orderless k = on-one orderless k (submitting 0 ∷ []) .waiting 0 (0 ∷ []) refl viable-one
+not-orderless k = on-one orderless k (Submit 0 ∷ []) .waiting 0 (0 ∷ []) refl viable-one
 
 -- gives the empty state after a call that is turned down
 unfoldable pub emptier : Scheduler
@@ -115,23 +142,25 @@ emptier s c = elim (callFault s c) [ some f ↦ emptyState | none ↦ scheduler 
 
 pub not-emptier : Keeps emptier → ⊥
 unfolding shownBy scheduled emptier
-not-emptier k = let z : _≡_ {A = ℕ} 0 1 = ap (λ (s : State). eventCount (s .plan)) (on-one emptier k (submitting 1 ∷ []) .shown) in omega arith
+not-emptier k =
+    let z : _≡_ {A = ℕ} 0 1 = ap (λ (s : State). eventCount (s .plan)) (on-one emptier k (Submit 1 ∷ []) .shown) in
+    omega arith
 
 -- closes a step and lets no event lapse
 abbrev pub lapseless : Scheduler
-lapseless s (submitting e) = scheduler s (submitting e)
-lapseless s (closing k) = shut s k
-lapseless s finishing = scheduler s finishing
+lapseless s (Submit e) = scheduler s (Submit e)
+lapseless s (Close k) = shut s k
+lapseless s Finish = scheduler s Finish
 
 pub not-lapseless : Keeps lapseless → ⊥
 unfolding shownBy scheduled
-not-lapseless k = clash (on-one lapseless k (closing 0 ∷ finishing ∷ []) .settled refl 0 (omega arith)) refl
+not-lapseless k = clash (on-one lapseless k (Close 0 ∷ Finish ∷ []) .settled refl 0 (omega arith)) refl
 
 -- refuses every event that is handed in
 abbrev pub refuser : Scheduler
-refuser s (submitting e) = settleAs Refused (hold s e) e
-refuser s (closing k) = scheduler s (closing k)
-refuser s finishing = scheduler s finishing
+refuser s (Submit e) = settleAs Refused (hold s e) e
+refuser s (Close k) = scheduler s (Close k)
+refuser s Finish = scheduler s Finish
 
 -- one event that is delayable, and no rule: no ground of its hand-in refuses it
 record Unrefused (s : State) : Type 0 where
@@ -140,15 +169,29 @@ record Unrefused (s : State) : Type 0 where
   not-refused : fateOf s 0 ≢ Refused
 
 unrefused-held : (s : State) → Unrefused s → Unrefused (hold s 0)
-unrefused-held s u = let q = fate-hold-same s 0 (u .sized) (omega arith) in record { same-plan = plan-hold s 0 ∙ u .same-plan; sized = sized-hold s 0 (u .sized); not-refused = λ r. let z : _≡_ {A = ℕ} 0 1 = cc in omega arith }
+unrefused-held s u =
+    let q = fate-hold-same s 0 (u .sized) (omega arith) in
+    record {
+      same-plan = plan-hold s 0 ∙ u .same-plan;
+      sized = sized-hold s 0 (u .sized);
+      not-refused = λ r. let z : _≡_ {A = ℕ} 0 1 = cc in omega arith;
+    }
 
 unrefused-done : (s : State) (o : List ℕ) → Unrefused s → Unrefused (doAll s o)
 unfolding doAll
 unrefused-done s [] u = u
-unrefused-done s (e ∷ o) u = unrefused-done (settleAs Done s e) o (record { same-plan = plan-settle Done s e ∙ u .same-plan; sized = sized-settle Done s e (u .sized); not-refused = λ r. elim (fate-settle-either Done s e 0 (u .sized)) [ inl q ↦ let z : _≡_ {A = ℕ} 0 1 = cc in omega arith | inr q ↦ u .not-refused (sym q ∙ r) ] })
+unrefused-done s (e ∷ o) u =
+    unrefused-done (settleAs Done s e) o (record {
+      same-plan = plan-settle Done s e ∙ u .same-plan;
+      sized = sized-settle Done s e (u .sized);
+      not-refused = λ r. elim (fate-settle-either Done s e 0 (u .sized)) [
+        | inl q ↦ let z : _≡_ {A = ℕ} 0 1 = cc in omega arith
+        | inr q ↦ u .not-refused (sym q ∙ r)
+      ];
+    })
 
 module _ (s : State) (e : ℕ) (u : Unrefused s) where
-  stays-delayable : submitting 0 ≡ submitting e → delayable (s .plan) e ≡ false → ⊥
+  stays-delayable : Submit 0 ≡ Submit e → delayable (s .plan) e ≡ false → ⊥
   unfolding shownBy
   stays-delayable q d = let z : 0 ≡ e = cc in clash (ap (λ p. delayable p 0) (u .same-plan)) (rw (← z) at d)
 
@@ -156,14 +199,15 @@ module _ (s : State) (e : ℕ) (u : Unrefused s) where
   unfolding shownBy
   not-barred = any-none (ruleCount (s .plan)) _ (λ i lt. absurd (omega (arith, ap ruleCount (u .same-plan))))
 
-  no-ground : Ground (submitting 0) s e → ⊥
+  no-ground : Ground (Submit 0) s e → ⊥
   no-ground (by-bar h b) = clash b not-barred
-  no-ground (by-hand q d r n) = stays-delayable q d
-  no-ground (by-end q l r) = let z : _≡_ {A = ℕ} 0 1 = cc in omega arith
+  no-ground (by-submission q d r n) = stays-delayable q d
+  no-ground (by-finish q l r) = let z : _≡_ {A = ℕ} 0 1 = cc in omega arith
 
-unrefused : {s t : State} → Trail (submitting 0) s t → Unrefused s → Unrefused t
+unrefused : {s t : State} → Trail (Submit 0) s t → Unrefused s → Unrefused t
 unrefused end u = u
-unrefused (held {s} e q o rest) u = unrefused rest (let z : 0 ≡ e = cc in subst (λ d. Unrefused (hold s d)) z (unrefused-held s u))
+unrefused (held {s} e q o rest) u =
+    unrefused rest (let z : 0 ≡ e = cc in subst (λ d. Unrefused (hold s d)) z (unrefused-held s u))
 unrefused (ordered {s} e o h f rest) u = unrefused rest (unrefused-done s o u)
 unrefused (alone {s} e q d r n rest) u = absurd (stays-delayable s e u q d)
 unrefused (refused {s} e g rest) u = absurd (no-ground s e u g)
@@ -174,4 +218,6 @@ pub not-refuser : Grounded refuser → ⊥
 unfolding shownBy
 not-refuser g =
     let z : Sized one = record { standings-len = refl; broken-len = refl; closed-len = refl; history-len = refl } in
-    unrefused (g one (submitting 0) z) (record { same-plan = refl; sized = z; not-refused = λ r. let w : _≡_ {A = ℕ} 0 1 = cc in omega arith }) .not-refused refl
+    unrefused (g one (Submit 0) z)
+    (record { same-plan = refl; sized = z; not-refused = λ r. let w : _≡_ {A = ℕ} 0 1 = cc in omega arith }) .not-refused
+    refl

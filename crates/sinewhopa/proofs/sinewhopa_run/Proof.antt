@@ -1,7 +1,7 @@
 -- `sinewhopa_run` meets its contract: the report is that of the list's run.
 use mathlib.Core.Path.{_∙_, ap}
 use lib.ListN.{length}
-use Rattle.scheduler.specs.declared.answer.Outcome.{Outcome}
+use Rattle.scheduler.specs.declared.reply.Outcome.{Outcome}
 use Rattle.scheduler.specs.Runner.{report}
 use Rattle.report.specs.Filled.{filled}
 use borrow.Author.Needs.{needs}

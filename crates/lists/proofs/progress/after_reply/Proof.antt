@@ -1,3 +1,4 @@
+-- `after_reply` meets its contract.
 use borrow.Author.Needs.{needs}
 use mathlib.Core.Path.{sym, _∙_}
 use Rattle.lists.proofs.Running.{reply-refused, reply-taken}
@@ -11,10 +12,10 @@ add-t7 : tie.Need-add-t7
 add-t7 c = search needs
 
 returns : tie.Need-returns
-returns c = reply-refused _ (c .before .before .before .args .reply) (sym (c .before .is-turned-down .ensures) ∙ c .if1 .taken)
+returns c = reply-refused (c .before .before .before .args .reply) _ _ (sym (c .before .is-turned-down .ensures) ∙ c .if1 .taken)
 
 returns-2 : tie.Need-returns-2
-returns-2 c = reply-taken _ (c .before .before .before .args .reply) (sym (c .before .is-turned-down .ensures) ∙ c .if1 .left)
+returns-2 c = reply-taken (c .before .before .before .args .reply) _ _ (sym (c .before .is-turned-down .ensures) ∙ c .if1 .left)
 
 pub after-reply-spec : {M : Type 1} → statement M
 after-reply-spec = tie.close (tie.spec is-turned-down-requires add-t7 returns returns-2)

@@ -1,6 +1,6 @@
--- `run` meets its contract: what it comes to by Running.antt, and demand 3 by the theorem of `theory`.
+-- `run` meets its contract: what it comes to, and demand 3 by the theorem of `theory`.
 use borrow.Author.Needs.{needs}
-use Rattle.lists.proofs.Kept.{ran, not-ran, kept}
+use Rattle.lists.proofs.Promises.{ran, not-ran, demanded}
 use Rattle.lists.proofs.run.run.Statement.{statement}
 use Rattle.lists.proofs.run.run.Tie as tie
 
@@ -19,12 +19,12 @@ enum-told-2 c = search needs
 returns : tie.Need-returns
 returns c =
     let e = ran _ _ (c .before .before .before .before .read-sheet .result) (c .before .before .before .before .read-sheet .ensures) _ (c .before .enum-told .given .1) (c .take-calls .ensures) in
-    (e, kept _ _ _ e)
+    (e, demanded _ _ _ e)
 
 returns-2 : tie.Need-returns-2
 returns-2 c =
     let e = not-ran _ _ (c .before .before .before .read-sheet .result) (c .before .before .before .read-sheet .ensures) _ _ (c .enum-told2 .given .1) in
-    (e, kept _ _ _ e)
+    (e, demanded _ _ _ e)
 
 pub run-spec : {M : Type 1} → statement M
 run-spec =

@@ -2,13 +2,13 @@
 use native.Mathlib.Omega.{arith}
 use mathlib.Core.Path.{sym}
 use Rattle.report.proofs.Pages.{put-byte, put-then, put-as, decimal-one, decimal-more, length-one, length-more}
+use Rattle.report.proofs.page.+put_decimal.{statement}
 use Prim.Native.Nat.{ℕ, _<_}
 use borrow.Fn.Kinds.{In}
 use borrow.Fn.PlainCycle.{Measures, is, falls, and}
 use Rattle.report.proofs.page.put_decimal.Reads as put-decimal
 use Rattle.report.proofs.page.put_decimal.Kinds as put-decimal-kinds
 use Rattle.report.proofs.page.+put_decimal.Lts-put_decimal as put-decimal-lts
-use Rattle.report.proofs.page.+put_decimal.{statement}
 use Rattle.report.proofs.page.+put_decimal.Tie.{close}
 
 abbrev μ-put-decimal : Measures 1 put-decimal-kinds.ps ℕ

@@ -2,7 +2,7 @@
 use Prim.Native.Nat.{_+_, _-_, _≤_}
 use native.Mathlib.Omega.{arith}
 use lib.ListN.{length, take}
-use Rattle.report.specs.Written.{Put}
+use Rattle.report.specs.Internal.Written.{Put}
 use Rattle.report.proofs.Pages.{word-none, word-next, word-all}
 use Rattle.report.proofs.page.put_word.Statement.{statement}
 use Rattle.report.proofs.page.put_word.Tie as tie

@@ -1,6 +1,6 @@
 -- `put_entry` meets its contract.
 use Rattle.scheduler.specs.Runner.{decimal}
-use Rattle.report.specs.Written.{fateEnd}
+use Rattle.report.specs.Internal.Written.{fateEnd}
 use Rattle.report.proofs.Splits.{room-first, room-then, put-both, entry-split}
 use borrow.Author.Needs.{needs}
 use Rattle.report.proofs.text.put_entry.Statement.{statement}

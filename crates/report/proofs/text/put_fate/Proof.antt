@@ -1,6 +1,6 @@
 -- `put_fate` meets its contract.
 use mathlib.Core.Path.{sym, ap}
-use Rattle.report.specs.Written.{fateEnd}
+use Rattle.report.specs.Internal.Written.{fateEnd}
 use Rattle.report.proofs.Pages.{put-as}
 use Rattle.report.proofs.Splits.{fate-room}
 use borrow.Author.Needs.{needs}

@@ -5,7 +5,7 @@ use mathlib.Core.Path.{_≡_, sym, _∙_, ap}
 use borrow.Author.Needs.{needs}
 use lib.ListN.{take}
 use Rattle.scheduler.specs.Runner.{historyLines}
-use Rattle.report.specs.Written.{Put}
+use Rattle.report.specs.Internal.Written.{Put}
 use Rattle.report.proofs.Pages.{put-none, put-then, put-as}
 use Rattle.report.proofs.Splits.{lines-none, lines-next, lines-room, lines-all}
 use Rattle.report.proofs.text.put_history.Statement.{statement}

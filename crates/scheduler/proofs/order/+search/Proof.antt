@@ -3,7 +3,8 @@ use borrow.Author.Tests.{not-true, not-false}
 use native.Mathlib.Omega.{arith}
 use mathlib.Core.Logic.{⊎-elim}
 use mathlib.Core.Path.{sym, _∙_}
-use Rattle.scheduler.proofs.Scan.{end-found, end-owing, end-without, left-zero, Left, left-none, skip, miss, hit}
+use Rattle.scheduler.proofs.SearchLoops.{end-found, end-owing, end-without, left-zero, Left, left-none, skip, miss, hit}
+use Rattle.scheduler.proofs.order.+search.{statement}
 use Prim.Native.Nat.{ℕ, _≤_, _<_, _-_}
 use borrow.Fn.Kinds.{In}
 use borrow.Fn.PlainCycle.{Measures, is, falls, and}
@@ -12,8 +13,7 @@ use Rattle.scheduler.proofs.order.search.Kinds as search-kinds
 use Rattle.scheduler.proofs.order.+search.Lts-search as search-lts
 use Rattle.scheduler.proofs.state.State.is_owing.Reads as is-owing-reads
 use Rattle.scheduler.proofs.state.State.may_do.Reads as may-do-reads
-use Rattle.scheduler.proofs.state.State.settle_as.Reads as settle-as-reads
-use Rattle.scheduler.proofs.order.+search.{statement}
+use Rattle.scheduler.proofs.state.State.do_one.Reads as do-one-reads
 use Rattle.scheduler.proofs.order.+search.Tie.{close}
 
 abbrev μ-search : Measures 0 search-kinds.ps ℕ
@@ -32,7 +32,7 @@ abbrev search-μ-loop : search-lts.MeasureT-loop
 search-μ-loop s event had at places none n x₀ x = n - x
 
 abbrev claims : ℕ → search-lts.Claims
-claims t = (is-owing-reads.Asked, is-owing-reads.Learnt, may-do-reads.Asked, may-do-reads.Learnt, settle-as-reads.Asked, settle-as-reads.Learnt, search-below t, search′.Post)
+claims t = (is-owing-reads.Asked, is-owing-reads.Learnt, may-do-reads.Asked, may-do-reads.Learnt, do-one-reads.Asked, do-one-reads.Learnt, search-below t, search′.Post)
 
 module _ (t : ℕ) where
   search-is-owing-requires : search-lts.Need-is-owing-requires (claims t) (search-at t) search′.Post search-Inv-loop search-μ-loop
@@ -53,8 +53,8 @@ module _ (t : ℕ) where
   search-may-do-requires : search-lts.Need-may-do-requires (claims t) (search-at t) search′.Post search-Inv-loop search-μ-loop
   search-may-do-requires c κs = tt
 
-  search-settle-as-requires : search-lts.Need-settle-as-requires (claims t) (search-at t) search′.Post search-Inv-loop search-μ-loop
-  search-settle-as-requires c κs = tt
+  search-do-one-requires : search-lts.Need-do-one-requires (claims t) (search-at t) search′.Post search-Inv-loop search-μ-loop
+  search-do-one-requires c κs = tt
 
   search-add-search : search-lts.Need-add-search (claims t) (search-at t) search′.Post search-Inv-loop search-μ-loop
   search-add-search c = omega arith
@@ -70,7 +70,7 @@ module _ (t : ℕ) where
 
   search-returns-4 : search-lts.Need-returns-4 (claims t) (search-at t) search′.Post search-Inv-loop search-μ-loop
   search-returns-4 c =
-      let same = rw (c .before .before .settle-as .ensures) at (c .before .search .ensures) in
+      let same = rw (c .before .before .do-one .ensures) at (c .before .search .ensures) in
       hit _ _ _ _ (c .before .before .before .before .before .before .loop .x) (c .before .before .before .before .before .loop-test .taken) (c .before .before .before .before .before .before .loop .inv .1) _ (c .before .search .result) same (sym (c .before .before .before .before .may-do .ensures) ∙ c .before .before .before .if4 .taken) (c .if5 .taken)
 
   search-add-x : search-lts.Need-add-x (claims t) (search-at t) search′.Post search-Inv-loop search-μ-loop
@@ -103,7 +103,7 @@ pub +search-spec : {M : Type 1} → statement M
     (search-returns-3 t)
     (search-loop-holds t)
     (search-may-do-requires t)
-    (search-settle-as-requires t)
+    (search-do-one-requires t)
     (search-add-search t)
     (search-sub-search t)
     (search-search-requires t)

@@ -1,5 +1,6 @@
+-- `add_event` meets its contract.
 use borrow.Author.Tests.{lt-ltb}
-use Rattle.scheduler.specs.Sheet.{addEvent}
+use Rattle.plan.specs.Records.{addEvent}
 use borrow.Author.Needs.{needs}
 use Rattle.sheet.proofs.declare.add_event.Statement.{statement}
 use Rattle.sheet.proofs.declare.add_event.Tie as tie

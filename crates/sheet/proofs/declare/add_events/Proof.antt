@@ -1,10 +1,11 @@
-use Rattle.sheet.proofs.Pieces.{add-next, count-next, all-added}
+-- `add_events` meets its contract. The loop's invariant: i events are added, and the rest of the table's added after them make the whole.
+use Rattle.sheet.proofs.RecordLaws.{add-next, count-next, all-added}
 use Prim.Native.Nat.{_+_, _-_, _≤_}
 use mathlib.Core.Path.{_≡_, refl, ap, _∙_}
 use native.Mathlib.Omega.{arith}
 use lib.ListN.{drop}
-use Rattle.scheduler.specs.State.{eventCount}
-use Rattle.scheduler.specs.Sheet.{table1, addEvents}
+use Rattle.plan.specs.Plans.{eventCount}
+use Rattle.plan.specs.Records.{table1, addEvents}
 use Rattle.sheet.proofs.declare.add_events.Statement.{statement}
 use Rattle.sheet.proofs.declare.add_events.Tie as tie
 

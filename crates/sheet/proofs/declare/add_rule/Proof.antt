@@ -1,5 +1,6 @@
+-- `add_rule` meets its contract.
 use borrow.Author.Tests.{lt-ltb}
-use Rattle.scheduler.specs.Sheet.{addRule}
+use Rattle.plan.specs.Records.{addRule}
 use borrow.Author.Needs.{needs}
 use Rattle.sheet.proofs.declare.add_rule.Statement.{statement}
 use Rattle.sheet.proofs.declare.add_rule.Tie as tie

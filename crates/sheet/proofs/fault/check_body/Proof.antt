@@ -1,5 +1,6 @@
+-- `check_body` meets its contract. One row of the table for each answer.
 use mathlib.Core.Path.{_∙_, sym}
-use Rattle.sheet.proofs.Rows.{attributes-row, bad-step, bad-attributes, rule-next, fine-event}
+use Rattle.sheet.proofs.RecordRows.{attributes-row, bad-step, bad-attributes, rule-next, fine-event}
 use borrow.Author.Needs.{needs}
 use Rattle.sheet.proofs.fault.check_body.Statement.{statement}
 use Rattle.sheet.proofs.fault.check_body.Tie as tie

@@ -1,6 +1,7 @@
+-- `check_record` meets its contract. One row of the table for each answer.
 use native.Mathlib.Omega.{arith}
 use mathlib.Core.Path.{_∙_, sym}
-use Rattle.sheet.proofs.Rows.{no-record, bad-kind, cut-record, full, body-next}
+use Rattle.sheet.proofs.RecordRows.{no-record, bad-kind, cut-record, full, body-next}
 use borrow.Author.Needs.{needs}
 use Rattle.sheet.proofs.fault.check_record.Statement.{statement}
 use Rattle.sheet.proofs.fault.check_record.Tie as tie

@@ -1,7 +1,7 @@
-use mathlib.Core.Path.{_∙_, sym}
+-- `check_rule` meets its contract.
+use mathlib.Core.Path.{refl, _∙_, sym}
 use borrow.Author.Tests.{not-true, not-false}
-use Rattle.scheduler.proofs.Parts.{named-part, enforceable-part}
-use Rattle.sheet.proofs.Rows.{bad-names, bad-rule, fine-rule}
+use Rattle.sheet.proofs.RecordRows.{bad-names, bad-rule, fine-rule}
 use borrow.Author.Needs.{needs}
 use Rattle.sheet.proofs.fault.check_rule.Statement.{statement}
 use Rattle.sheet.proofs.fault.check_rule.Tie as tie
@@ -10,16 +10,16 @@ are-named-requires : tie.Need-are-named-requires
 are-named-requires c κs = search needs
 
 returns : tie.Need-returns
-returns c = bad-names _ _ (sym (named-part _ _) ∙ sym (c .before .are-named .ensures) ∙ not-true _ (c .if1 .taken))
+returns c = bad-names _ _ (sym (c .before .are-named .ensures) ∙ not-true _ (c .if1 .taken))
 
 is-enforceable-requires : tie.Need-is-enforceable-requires
 is-enforceable-requires c κs = search needs
 
 returns-2 : tie.Need-returns-2
-returns-2 c = bad-rule _ _ (sym (named-part _ _) ∙ sym (c .before .before .before .before .are-named .ensures) ∙ not-false _ (c .before .before .before .if1 .left)) (sym (enforceable-part _ _) ∙ sym (c .before .is-enforceable .ensures) ∙ not-true _ (c .if2 .taken))
+returns-2 c = bad-rule _ _ (sym (c .before .before .before .before .are-named .ensures) ∙ not-false _ (c .before .before .before .if1 .left)) (sym (c .before .is-enforceable .ensures (c .before .before .before .before .before .args .plan) refl) ∙ not-true _ (c .if2 .taken))
 
 returns-3 : tie.Need-returns-3
-returns-3 c = fine-rule _ _ (sym (named-part _ _) ∙ sym (c .before .before .before .before .are-named .ensures) ∙ not-false _ (c .before .before .before .if1 .left)) (sym (enforceable-part _ _) ∙ sym (c .before .is-enforceable .ensures) ∙ not-false _ (c .if2 .left))
+returns-3 c = fine-rule _ _ (sym (c .before .before .before .before .are-named .ensures) ∙ not-false _ (c .before .before .before .if1 .left)) (sym (c .before .is-enforceable .ensures (c .before .before .before .before .before .args .plan) refl) ∙ not-false _ (c .if2 .left))
 
 pub check-rule-spec : {M : Type 1} → statement M
 check-rule-spec =

@@ -1,3 +1,4 @@
+-- `is_full` meets its contract.
 use borrow.Author.Needs.{needs}
 use Rattle.sheet.proofs.fault.is_full.Statement.{statement}
 use Rattle.sheet.proofs.fault.is_full.Tie as tie

@@ -37,19 +37,20 @@ use denote.Triple.Spec.{Meets, tripleOf}
 use denote.Triple.Table.{entered, cited}
 use denote.Triple.Walked.{says, Stays, stay-none-slice, walkOf, goes-none-slice, Walks, ends-at, walked, walk-meets}
 use denote.Exit.{yes}
+use Rattle.plan.specs.Records.{recordAt}
 use Rattle.scheduler.specs.Sheet.{readSheet}
 use Rattle.walks.specs.Called.{Its, calls-known, calls-known-last, later, lone, is-true, is-false}
-use Rattle.scheduler.proofs.answer.Reading as R
-use Rattle.scheduler.proofs.answer.Reading.Laws as R′
+use Rattle.scheduler.proofs.reply.Reading as R
+use Rattle.scheduler.proofs.reply.Reading.Laws as R′
 use Rattle.sheet.specs.Types.{Record, Reader, Progress, Reading}
-use Rattle.sheet.specs.Progress.{recordAt, started as beginning, takeRecord, readingOf}
-use Rattle.sheet.specs.Place.{placeAfter}
+use Rattle.sheet.specs.Internal.Progress.{started as beginning, takeRecord, readingOf}
+use Rattle.sheet.specs.Internal.Place.{placeAfter}
 use Rattle.sheet.proofs.Reading.{Underway, leftOf, begins, less, again as goes-on}
-use Rattle.sheet.proofs.Held.{Own as Held, twice}
+use Rattle.sheet.proofs.ReaderOwned.{Own as Held, twice}
 use Rattle.sheet.proofs.reader.Reader as T
 use Rattle.sheet.proofs.reader.Reader.Laws as T′
-use Rattle.sheet.proofs.bytes.Record as S
-use Rattle.sheet.proofs.bytes.Record.Laws as S′
+use Rattle.plan.proofs.record.Record as S
+use Rattle.plan.proofs.record.Record.Laws as S′
 use Rattle.sheet.proofs.read.Progress as P
 use Rattle.sheet.proofs.read.Progress.Laws as P′
 use Rattle.sheet.proofs.reader.new_reader as new-reader
@@ -147,13 +148,15 @@ module _ {M : Type 1} (𝓤 : URA M) (H : Heap 𝓤) (A : Atoms 𝓤) (W : Given
   abbrev to-next : ℕ → Its 𝓤 H A next-record.ended (next-record.clauses 𝓤 H A mem run) .Ghost
   to-next n = (((κ, tt), (q, tt), tt, (rd n, tt), (T′.lowered (rd n) ∷ [], tt)), tt)
 
-  goes-next : (n : ℕ) → ent 𝓤 (sep 𝓤 (sem 𝓤 H A (OwnR n)) Tok) (Its 𝓤 H A next-record.ended (next-record.clauses 𝓤 H A mem run) .pre (to-next n))
+  goes-next : (n : ℕ)
+      → ent 𝓤 (sep 𝓤 (sem 𝓤 H A (OwnR n)) Tok) (Its 𝓤 H A next-record.ended (next-record.clauses 𝓤 H A mem run) .pre (to-next n))
   goes-next n = qed W (‵ (OwnR n) ∷ raw Tok ∷ []) ∵ nothing ! $ move ! (1 ∷ 0 ∷ []) $ fjoin ! $ move ! (1 ∷ 0 ∷ []) $ join ! $ frame ! $ done !
 
   abbrev to-moved : ℕ → Record → Its 𝓤 H A moved-past.ended (moved-past.clauses 𝓤 H A mem run) .Ghost
   to-moved n r = (((κ, tt), (q, tt), tt, (rd n, (r, tt)), (T′.lowered (rd n) ∷ [], (S′.lowered r ∷ [], tt))), tt)
 
-  goes-moved : (n : ℕ) (r : Record) → IsS r → ent 𝓤 (sep 𝓤 (sem 𝓤 H A (OwnR n)) Tok) (Its 𝓤 H A moved-past.ended (moved-past.clauses 𝓤 H A mem run) .pre (to-moved n r))
+  goes-moved : (n : ℕ) (r : Record) → IsS r
+      → ent 𝓤 (sep 𝓤 (sem 𝓤 H A (OwnR n)) Tok) (Its 𝓤 H A moved-past.ended (moved-past.clauses 𝓤 H A mem run) .pre (to-moved n r))
   goes-moved n r is =
       qed W (‵ (OwnR n) ∷ raw Tok ∷ []) ∵ nothing ! $ owned ! S.the-row (Is S.the-row) (LL.makes S.the-type S′.the-plain 𝓤 H A) r _ is $ fjoin ! $ move ! (1 ∷ 0 ∷ []) $ fjoin ! $ move ! (1 ∷ 0 ∷ []) $ join ! $ frame ! $ done !
 
@@ -166,7 +169,8 @@ module _ {M : Type 1} (𝓤 : URA M) (H : Heap 𝓤) (A : Atoms 𝓤) (W : Given
   abbrev to-reading : Progress → Its 𝓤 H A reading-of.ended (reading-of.clauses 𝓤 H A mem run) .Ghost
   to-reading p = ((tt, tt, tt, (p, tt), (P′.lowered p ∷ [], tt)), tt)
 
-  exits : (g : Reading) → Is R.the-row g (R′.lowered g ∷ []) → g ≡ readSheet (now s) → ent 𝓤 (⋆ 𝓤 H A (raw Tok ∷ ‵ Own ∷ [])) (Post (R′.lowered g))
+  exits : (g : Reading) → Is R.the-row g (R′.lowered g ∷ []) → g ≡ readSheet (now s)
+      → ent 𝓤 (⋆ 𝓤 H A (raw Tok ∷ ‵ Own ∷ [])) (Post (R′.lowered g))
   exits g is e =
       qed W (raw Tok ∷ ‵ Own ∷ []) ∵
       suffices ! _ (ends-at 𝓤 H A read-sheet.ended stayed (read-sheet.clauses 𝓤 H A mem run) W (((κ, tt), (q, tt), tt, (s, tt), (v ∷ [], tt)), tt) (R′.lowered g) g (tt, tt) (tt, tt)) $ says ! e $
@@ -282,7 +286,8 @@ module _ {M : Type 1} (𝓤 : URA M) (H : Heap 𝓤) (A : Atoms 𝓤) (W : Given
     Fresh = ‵ (froom (T′.mir erased) l₉ 0) ∷ ‵ (fdies (T′.mir erased) l₉) ∷ ‵ (froom word l₈ 0) ∷ ‵ (fdies word l₈) ∷ ‵ (froom word l₇ 0) ∷ ‵ (fdies word l₇) ∷ ‵ (froom (T′.mir erased) l₆ 0) ∷ ‵ (fdies (T′.mir erased) l₆) ∷ ‵ (froom tyBool l₅ 0) ∷ ‵ (fdies tyBool l₅) ∷ ‵ (froom S′.mir l₄ 0) ∷ ‵ (fdies S′.mir l₄) ∷ ‵ (froom P′.mir l₃ 0) ∷ ‵ (fdies P′.mir l₃) ∷ ‵ (froom (T′.mir erased) l₂ 0) ∷ ‵ (fdies (T′.mir erased) l₂) ∷ ‵ (froom slice l₁ 0) ∷ ‵ (fdies slice l₁) ∷ ‵ (froom R′.mir l₀ 0) ∷ ‵ (fdies R′.mir l₀) ∷ ‵ Own ∷ raw Tok ∷ []
 
     -- the MIR, up to the loop
-    body : Is (ShrSlice (named 0) κ u8) s (v ∷ []) → Sq W Fresh (params′ En (v ∷ []) (runs C Λ En mir′.t-1 (atRet En Post)))
+    body : Is (ShrSlice (named 0) κ u8) s (v ∷ [])
+        → Sq W Fresh (params′ En (v ∷ []) (runs C Λ En mir′.t-1 (atRet En Post)))
     body is =
         params1 ! $ pass1 ! (init ! 16 refl (shr-slice-lawful 𝓤 H A W (named 0) κ u8 .typed s (v ∷ []) is .0)) $ pass0 ! $
         -- [_9; …; _1; …; room for _0; …; what s owns; the token]
@@ -294,18 +299,22 @@ module _ {M : Type 1} (𝓤 : URA M) (H : Heap 𝓤) (A : Atoms 𝓤) (W : Given
         -- [what the reader owns; the token; what s owns; _9; …]
         first ! $ blocks ! $ looped (record { place = 0; progress = beginning; is = isP; under = begins (now s) })))
 
-  walk : (𝓣 : Tables 𝓤 H) → FmC 𝓤 H (W .laws) (𝓣 .C) → Known 𝓤 H A mem run (𝓣 .C) → Is (ShrSlice (named 0) κ u8) s (v ∷ []) → ent 𝓤 (onEntry 𝓤 H A read-sheet.signature (κ, tt) (q, tt) (s, tt) (v ∷ [], tt)) (WpFn 𝓤 H (𝓣 .C) (𝓣 .Λ) code.function (v ∷ []) Post)
+  walk : (𝓣 : Tables 𝓤 H) → FmC 𝓤 H (W .laws) (𝓣 .C) → Known 𝓤 H A mem run (𝓣 .C)
+      → Is (ShrSlice (named 0) κ u8) s (v ∷ [])
+      → ent 𝓤 (onEntry 𝓤 H A read-sheet.signature (κ, tt) (q, tt) (s, tt) (v ∷ [], tt)) (WpFn 𝓤 H (𝓣 .C) (𝓣 .Λ) code.function (v ∷ []) Post)
   walk 𝓣 fm known is =
       qed W (raw Tok ∷ ‵ (owns (ShrSlice (named 0) κ u8 ∷ []) (s, tt) (v ∷ [], tt)) ∷ []) ∵ move ! (1 ∷ []) $ fsplit ! $ move ! (1 ∷ []) $ drop ! $ enter ! (𝓣 .C) (𝓣 .Λ) code.function (v ∷ []) _ $
       alloc1 ! (λ l₀. alloc1 ! (λ l₁. alloc1 ! (λ l₂. alloc1 ! (λ l₃. alloc1 ! (λ l₄. alloc1 ! (λ l₅. alloc1 ! (λ l₆. alloc1 ! (λ l₇. alloc1 ! (λ l₈. alloc1 ! (λ l₉. alloc0 ! $
       body 𝓣 fm known l₀ l₁ l₂ l₃ l₄ l₅ l₆ l₇ l₈ l₉ is))))))))))
 
 module _ {M : Type 1} (𝓤 : URA M) (H : Heap 𝓤) (A : Atoms 𝓤) (W : Given 𝓤 H A) (mem : Memory → SProp 𝓤) (run : Routine → Fun 𝓤) where
-  read-sheet-walks : (𝓣 : Tables 𝓤 H) → FmC 𝓤 H (W .laws) (𝓣 .C) → Known 𝓤 H A mem run (𝓣 .C) → Walks 𝓤 H A read-sheet.ended stayed (WpFn 𝓤 H (𝓣 .C) (𝓣 .Λ) code.function) (read-sheet.clauses 𝓤 H A mem run)
+  read-sheet-walks : (𝓣 : Tables 𝓤 H) → FmC 𝓤 H (W .laws) (𝓣 .C) → Known 𝓤 H A mem run (𝓣 .C)
+      → Walks 𝓤 H A read-sheet.ended stayed (WpFn 𝓤 H (𝓣 .C) (𝓣 .Λ) code.function) (read-sheet.clauses 𝓤 H A mem run)
   read-sheet-walks 𝓣 fm known = walked 𝓤 H A read-sheet.ended stayed (read-sheet.clauses 𝓤 H A mem run) (WpFn 𝓤 H (𝓣 .C) (𝓣 .Λ) code.function) (λ κs. (slice-vals, tt)) (λ κs. (shr-slice-tells (named 0) (κs .0) u8, tt))
       (λ κs qs bounds a g are. via 𝓤 _ (fst∗ 𝓤 _ (emp 𝓤)) (walk 𝓤 H A W mem run (κs .0) (qs .0) (a .0) 𝓣 fm known (are .0)))
 
-read-sheet-meets : {M : Type 1} (𝓤 : URA M) (H : Heap 𝓤) (A : Atoms 𝓤) (W : Given 𝓤 H A) (mem : Memory → SProp 𝓤) (run : Routine → Fun 𝓤) (𝓣 : Tables 𝓤 H) → Known 𝓤 H A mem run (𝓣 .C)
+read-sheet-meets : {M : Type 1} (𝓤 : URA M) (H : Heap 𝓤) (A : Atoms 𝓤) (W : Given 𝓤 H A) (mem : Memory → SProp 𝓤) (run : Routine → Fun 𝓤) (𝓣 : Tables 𝓤 H)
+    → Known 𝓤 H A mem run (𝓣 .C)
     → Meets 𝓤 H A read-sheet.signature (WpFn 𝓤 H (𝓣 .C) (𝓣 .Λ) code.function) (read-sheet.spec 𝓤 H A mem run)
 read-sheet-meets 𝓤 H A W mem run 𝓣 known = walk-meets 𝓤 H A read-sheet.ended stayed W (goes-none-slice 𝓤 H A W 1 (0 ∷ []) tt (plain (λ _. u8)) yes, tt) (read-sheet.clauses 𝓤 H A mem run) (WpFn 𝓤 H (𝓣 .C) (𝓣 .Λ) code.function) (WpFn-mono 𝓤 H (W .laws) 𝓣 code.function)
     (read-sheet-walks 𝓤 H A W mem run 𝓣 (fmOf 𝓤 H (W .laws) 𝓣) known)

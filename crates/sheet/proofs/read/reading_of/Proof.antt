@@ -1,6 +1,7 @@
+-- `reading_of` meets its contract.
 use Rattle.scheduler.specs.State.{firstState}
 use mathlib.Core.Path.{_∙_, ap}
-use Rattle.sheet.proofs.Pieces.{reading-admitted, reading-refused}
+use Rattle.sheet.proofs.ProgressLaws.{reading-admitted, reading-faulty}
 use borrow.Author.Needs.{needs}
 use Rattle.sheet.proofs.read.reading_of.Statement.{statement}
 use Rattle.sheet.proofs.read.reading_of.Tie as tie
@@ -24,7 +25,7 @@ returns : tie.Need-returns
 returns c = reading-admitted _ _ _ (c .before .enum-told .given .1) (c .first-state .ensures)
 
 returns-2 : tie.Need-returns-2
-returns-2 c = reading-refused _ _ _ _ _ (c .before .before .enum-told2 .given .1) (c .first-state2 .ensures ∙ ap firstState (c .before .empty-plan .ensures))
+returns-2 c = reading-faulty _ _ _ _ _ (c .before .before .enum-told2 .given .1) (c .first-state2 .ensures ∙ ap firstState (c .before .empty-plan .ensures))
 
 pub reading-of-spec : {M : Type 1} → statement M
 reading-of-spec =

@@ -1,3 +1,4 @@
+-- `started` meets its contract.
 use borrow.Author.Needs.{needs}
 use Rattle.sheet.proofs.read.started.Statement.{statement}
 use Rattle.sheet.proofs.read.started.Tie as tie

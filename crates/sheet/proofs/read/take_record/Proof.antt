@@ -1,9 +1,10 @@
+-- `take_record` meets its contract.
 use mathlib.Core.Path.{_≡_, _∙_}
 use mathlib.Core.Option.{none}
 use native.Mathlib.Omega.{arith}
-use Rattle.sheet.specs.Progress.{faultOf}
-use Rattle.sheet.proofs.Passed.{Passed, passed, room}
-use Rattle.sheet.proofs.Reading.{no-fault, taken-bad, taken-extra, taken-end, taken-next}
+use Rattle.plan.specs.Records.{recordFault}
+use Rattle.sheet.proofs.FaultlessRecords.{Faultless, faultless, room}
+use Rattle.sheet.proofs.ProgressLaws.{no-fault, taken-bad, taken-extra, taken-end, taken-next}
 use borrow.Author.Needs.{needs}
 use Rattle.sheet.proofs.read.take_record.Statement.{statement}
 use Rattle.sheet.proofs.read.take_record.Tie as tie
@@ -12,11 +13,13 @@ use Rattle.sheet.proofs.read.take_record.Tie as tie
 abbrev start : tie.After-enum-told → tie.Start
 start c = c .before .before .before .before
 
-fine-here : (c : tie.After-enum-told) → faultOf (start c .args .progress .plan) (start c .args .len) (start c .args .at) (start c .args .rec) ≡ none
+fine-here : (c : tie.After-enum-told)
+    → recordFault (start c .args .progress .plan) (start c .args .len) (start c .args .at) (start c .args .rec) ≡ none
 fine-here c = no-fault (start c .args .progress) (start c .args .len) (start c .args .at) (start c .args .rec) _ (c .before .before .check-record .ensures) (c .enum-told .given .1)
 
-here-passed : (c : tie.After-enum-told) → Passed (start c .args .progress .plan) (start c .args .len) (start c .args .at) (start c .args .rec)
-here-passed c = passed _ _ _ _ (fine-here c)
+here-faultless : (c : tie.After-enum-told)
+    → Faultless (start c .args .progress .plan) (start c .args .len) (start c .args .at) (start c .args .rec)
+here-faultless c = faultless _ _ _ _ (fine-here c)
 
 check-record-requires : tie.Need-check-record-requires
 check-record-requires c κs = search needs
@@ -37,7 +40,7 @@ returns : tie.Need-returns
 returns c = c .stopped .ensures ∙ taken-bad _ _ _ _ _ _ _ (c .before .before .before .before .check-record .ensures) (c .before .before .enum-told2 .given .1) (c .before .verdict-of .ensures)
 
 add-if2 : tie.Need-add-if2
-add-if2 c = omega (arith, here-passed (c .before) .inside)
+add-if2 c = omega (arith, here-faultless (c .before) .inside)
 
 add-t13 : tie.Need-add-t13
 add-t13 c = search needs
@@ -55,7 +58,7 @@ returns-3 : tie.Need-returns-3
 returns-3 c = c .stopped3 .ensures ∙ taken-end _ _ _ _ (fine-here (c .before .before .before)) (c .before .before .if1 .taken) (c .before .if2 .left)
 
 declare-requires : tie.Need-declare-requires
-declare-requires c κs = room (here-passed (c .before)) (c .if1 .left)
+declare-requires c κs = room (here-faultless (c .before)) (c .if1 .left)
 
 returns-4 : tie.Need-returns-4
 returns-4 c = taken-next _ _ _ _ (fine-here (c .before .before)) _ (c .before .if1 .left) (c .declare .ensures)

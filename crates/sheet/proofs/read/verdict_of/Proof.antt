@@ -1,3 +1,4 @@
+-- `verdict_of` meets its contract.
 use borrow.Author.Needs.{needs}
 use Rattle.sheet.proofs.read.verdict_of.Statement.{statement}
 use Rattle.sheet.proofs.read.verdict_of.Tie as tie

@@ -36,11 +36,11 @@ use denote.Triple.Walked.{says, Stays, stay-none, walkOf, goes-none, Walks, ends
 use denote.Exit.{yes}
 use Rattle.walks.specs.Called.{Its, calls-known}
 use Rattle.sheet.specs.Types.{Record, Reader}
-use Rattle.sheet.specs.Place.{placeAfter}
-use Rattle.sheet.proofs.Held.{Row, decl, laws, Own, OwnSheet, fields, twice, sheet-out, typed}
+use Rattle.sheet.specs.Internal.Place.{placeAfter}
+use Rattle.sheet.proofs.ReaderOwned.{Row, decl, laws, Own, OwnSheet, fields, twice, sheet-out, typed}
 use Rattle.sheet.proofs.reader.Reader.Laws as T′
-use Rattle.sheet.proofs.bytes.Record as S
-use Rattle.sheet.proofs.bytes.Record.Laws as S′
+use Rattle.plan.proofs.record.Record as S
+use Rattle.plan.proofs.record.Record.Laws as S′
 use Rattle.sheet.proofs.reader.place_after as place-after
 use Rattle.sheet.proofs.reader.place_after.Symbol as place-after-def
 use Rattle.sheet.proofs.reader.place_after.Symbol.{name as #place-after}
@@ -82,7 +82,8 @@ module _ {M : Type 1} (𝓤 : URA M) (H : Heap 𝓤) (A : Atoms 𝓤) (W : Given
   abbrev to : Its 𝓤 H A place-after.ended (place-after.clauses 𝓤 H A mem run) .Ghost
   to = (((κ, tt), (q, tt), tt, (d .sheet, (d .at, (r, tt))), (sliceVal (d .sheet .ptr) (length (d .sheet .now)) ∷ [], (vint w64 (d .at) ∷ [], (val ∷ [], tt)))), tt)
 
-  goes : d .at < 2 ^ 64 → IsS → ent 𝓤 (sep 𝓤 (sem 𝓤 H A (Own κ d)) Tok) (Its 𝓤 H A place-after.ended (place-after.clauses 𝓤 H A mem run) .pre to)
+  goes : d .at < 2 ^ 64 → IsS
+      → ent 𝓤 (sep 𝓤 (sem 𝓤 H A (Own κ d)) Tok) (Its 𝓤 H A place-after.ended (place-after.clauses 𝓤 H A mem run) .pre to)
   goes fits isS =
       qed W (‵ (Own κ d) ∷ raw Tok ∷ []) ∵
       use1 W (‵ (OwnSheet κ d)) (sheet-out 𝓤 H A W κ d) $
@@ -100,7 +101,8 @@ module _ {M : Type 1} (𝓤 : URA M) (H : Heap 𝓤) (A : Atoms 𝓤) (W : Given
       owned ! usize (Is usize) (uint-makes 𝓤 H A W w64) n _ (refl, fits) $ move ! (1 ∷ 0 ∷ []) $ by ! (own-put 𝓤 H A W (decl (κ, tt)) (laws (κ, tt)) 1 (fields κ d) n mach)
 
   module _ (C : Calls 𝓤 H) (Λ : Loops 𝓤 H) (fm : FmC 𝓤 H (W .laws) C) (known : Triple 𝓤 (C #place-after) (Its 𝓤 H A place-after.ended (place-after.clauses 𝓤 H A mem run))) where
-    walk : Holds (hasTy (T′.mir (named 0)) mach) × WT mach → IsS → ent 𝓤 (onEntry 𝓤 H A moved-past.signature (κ, tt) (q, tt) (d, (r, tt)) at) (WpFn 𝓤 H C Λ code.function (mach ∷ val ∷ []) Post)
+    walk : Holds (hasTy (T′.mir (named 0)) mach) × WT mach → IsS
+        → ent 𝓤 (onEntry 𝓤 H A moved-past.signature (κ, tt) (q, tt) (d, (r, tt)) at) (WpFn 𝓤 H C Λ code.function (mach ∷ val ∷ []) Post)
     walk wt isS =
         qed W (raw Tok ∷ ‵ (owns (Row (κ, tt) ∷ S.the-row ∷ []) (d, (r, tt)) at) ∷ []) ∵ move ! (1 ∷ []) $ fsplit ! $ move ! (1 ∷ []) $ drop ! $ enter ! C Λ code.function (mach ∷ val ∷ []) _ $
         alloc1 ! (λ l₀. alloc1 ! (λ l₁. alloc1 ! (λ l₂. alloc1 ! (λ l₃. alloc1 ! (λ l₄. alloc1 ! (λ l₅. alloc1 ! (λ l₆. alloc0 ! $
@@ -119,7 +121,8 @@ module _ {M : Type 1} (𝓤 : URA M) (H : Heap 𝓤) (A : Atoms 𝓤) (W : Given
         move ! (14 ∷ 15 ∷ []) $ free1 ! $ move ! (12 ∷ 13 ∷ []) $ free1 ! $ move ! (10 ∷ 11 ∷ []) $ free1 ! $ move ! (8 ∷ 9 ∷ []) $ free1 ! $ move ! (6 ∷ 7 ∷ []) $ free1 ! $ move ! (4 ∷ 5 ∷ []) $ free1 ! $ move ! (2 ∷ 3 ∷ []) $ free1 ! $ free0 ! $ by ! (exits isS (isN .1))))))))))
 
 module _ {M : Type 1} (𝓤 : URA M) (H : Heap 𝓤) (A : Atoms 𝓤) (W : Given 𝓤 H A) (mem : Memory → SProp 𝓤) (run : Routine → Fun 𝓤) where
-  moved-past-walks : (C : Calls 𝓤 H) (Λ : Loops 𝓤 H) → FmC 𝓤 H (W .laws) C → Triple 𝓤 (C #place-after) (Its 𝓤 H A place-after.ended (place-after.clauses 𝓤 H A mem run))
+  moved-past-walks : (C : Calls 𝓤 H) (Λ : Loops 𝓤 H) → FmC 𝓤 H (W .laws) C
+      → Triple 𝓤 (C #place-after) (Its 𝓤 H A place-after.ended (place-after.clauses 𝓤 H A mem run))
       → Walks 𝓤 H A moved-past.ended stayed (WpFn 𝓤 H C Λ code.function) (moved-past.clauses 𝓤 H A mem run)
   moved-past-walks C Λ fm known = walked 𝓤 H A moved-past.ended stayed (moved-past.clauses 𝓤 H A mem run) (WpFn 𝓤 H C Λ code.function)
       (λ κs. (LL.vals (decl κs) (laws κs), (LL.vals S.the-type S′.the-laws, tt))) (λ κs. (LL.tells (decl κs) (laws κs), (LL.tells S.the-type S′.the-laws, tt)))

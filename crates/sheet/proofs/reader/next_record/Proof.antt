@@ -34,16 +34,16 @@ use denote.Triple.Table.{entered, cited}
 use denote.Triple.Walked.{says, Stays, stay-none, walkOf, goes-none, Walks, ends-at, walked, walk-meets}
 use denote.Exit.{yes}
 use Rattle.walks.specs.Called.{Its, calls-known}
+use Rattle.plan.specs.Records.{recordAt}
 use Rattle.sheet.specs.Types.{Record, Reader}
-use Rattle.sheet.specs.Progress.{recordAt}
-use Rattle.sheet.proofs.Held.{Row, decl, laws, Own, OwnSheet, twice, sheet-out, typed}
+use Rattle.sheet.proofs.ReaderOwned.{Row, decl, laws, Own, OwnSheet, twice, sheet-out, typed}
 use Rattle.sheet.proofs.reader.Reader.Laws as T′
-use Rattle.sheet.proofs.bytes.Record as S
-use Rattle.sheet.proofs.bytes.Record.Laws as S′
-use Rattle.sheet.proofs.bytes.record_at as record-at
-use Rattle.sheet.proofs.bytes.record_at.Symbol as record-at-def
-use Rattle.sheet.proofs.bytes.record_at.Symbol.{name as #record-at}
-use Rattle.sheet.proofs.bytes.record_at.Met as record-at-thm
+use Rattle.plan.proofs.record.Record as S
+use Rattle.plan.proofs.record.Record.Laws as S′
+use Rattle.sheet.proofs.record.record_at as record-at
+use Rattle.sheet.proofs.record.record_at.Symbol as record-at-def
+use Rattle.sheet.proofs.record.record_at.Symbol.{name as #record-at}
+use Rattle.sheet.proofs.record.record_at.Met as record-at-thm
 use Rattle.sheet.proofs.reader.next_record.Key.{name as #next-record}
 use Rattle.sheet.proofs.reader.next_record as next-record
 use Rattle.sheet.proofs.reader.next_record.Statement as stated
@@ -72,7 +72,8 @@ module _ {M : Type 1} (𝓤 : URA M) (H : Heap 𝓤) (A : Atoms 𝓤) (W : Given
   abbrev to : Its 𝓤 H A record-at.ended (record-at.clauses 𝓤 H A mem run) .Ghost
   to = (((κ, tt), (q, tt), tt, (d .sheet, (d .at, tt)), (sliceVal (d .sheet .ptr) (length (d .sheet .now)) ∷ [], (vint w64 (d .at) ∷ [], tt))), tt)
 
-  goes : d .at < 2 ^ 64 → ent 𝓤 (sep 𝓤 (sem 𝓤 H A (Own κ d)) Tok) (Its 𝓤 H A record-at.ended (record-at.clauses 𝓤 H A mem run) .pre to)
+  goes : d .at < 2 ^ 64
+      → ent 𝓤 (sep 𝓤 (sem 𝓤 H A (Own κ d)) Tok) (Its 𝓤 H A record-at.ended (record-at.clauses 𝓤 H A mem run) .pre to)
   goes fits =
       qed W (‵ (Own κ d) ∷ raw Tok ∷ []) ∵
       use1 W (‵ (OwnSheet κ d)) (sheet-out 𝓤 H A W κ d) $
@@ -86,7 +87,8 @@ module _ {M : Type 1} (𝓤 : URA M) (H : Heap 𝓤) (A : Atoms 𝓤) (W : Given
       move ! (1 ∷ []) $ frame ! $ nothing ! $ move ! (2 ∷ 0 ∷ []) $ fjoin ! $ frame ! $ done !
 
   module _ (C : Calls 𝓤 H) (Λ : Loops 𝓤 H) (fm : FmC 𝓤 H (W .laws) C) (known : Triple 𝓤 (C #record-at) (Its 𝓤 H A record-at.ended (record-at.clauses 𝓤 H A mem run))) where
-    walk : Holds (hasTy (T′.mir (named 0)) mach) × WT mach → ent 𝓤 (onEntry 𝓤 H A next-record.signature (κ, tt) (q, tt) (d, tt) (mach ∷ [], tt)) (WpFn 𝓤 H C Λ code.function (mach ∷ []) Post)
+    walk : Holds (hasTy (T′.mir (named 0)) mach) × WT mach
+        → ent 𝓤 (onEntry 𝓤 H A next-record.signature (κ, tt) (q, tt) (d, tt) (mach ∷ [], tt)) (WpFn 𝓤 H C Λ code.function (mach ∷ []) Post)
     walk wt =
         qed W (raw Tok ∷ ‵ (owns (Row (κ, tt) ∷ []) (d, tt) (mach ∷ [], tt)) ∷ []) ∵ move ! (1 ∷ []) $ fsplit ! $ move ! (1 ∷ []) $ drop ! $ enter ! C Λ code.function (mach ∷ []) _ $
         alloc1 ! (λ l₀. alloc1 ! (λ l₁. alloc1 ! (λ l₂. alloc1 ! (λ l₃. alloc0 ! $ params1 ! $ pass1 ! (init ! 4 refl wt) $ pass0 ! $
@@ -102,7 +104,8 @@ module _ {M : Type 1} (𝓤 : URA M) (H : Heap 𝓤) (A : Atoms 𝓤) (W : Given
         move ! (9 ∷ 10 ∷ []) $ free1 ! $ move ! (7 ∷ 8 ∷ []) $ free1 ! $ move ! (5 ∷ 6 ∷ []) $ free1 ! $ move ! (3 ∷ 4 ∷ []) $ free1 ! $ free0 ! $ by ! exits)))))
 
 module _ {M : Type 1} (𝓤 : URA M) (H : Heap 𝓤) (A : Atoms 𝓤) (W : Given 𝓤 H A) (mem : Memory → SProp 𝓤) (run : Routine → Fun 𝓤) where
-  next-record-walks : (C : Calls 𝓤 H) (Λ : Loops 𝓤 H) → FmC 𝓤 H (W .laws) C → Triple 𝓤 (C #record-at) (Its 𝓤 H A record-at.ended (record-at.clauses 𝓤 H A mem run))
+  next-record-walks : (C : Calls 𝓤 H) (Λ : Loops 𝓤 H) → FmC 𝓤 H (W .laws) C
+      → Triple 𝓤 (C #record-at) (Its 𝓤 H A record-at.ended (record-at.clauses 𝓤 H A mem run))
       → Walks 𝓤 H A next-record.ended stayed (WpFn 𝓤 H C Λ code.function) (next-record.clauses 𝓤 H A mem run)
   next-record-walks C Λ fm known = walked 𝓤 H A next-record.ended stayed (next-record.clauses 𝓤 H A mem run) (WpFn 𝓤 H C Λ code.function) (λ κs. (LL.vals (decl κs) (laws κs), tt)) (λ κs. (LL.tells (decl κs) (laws κs), tt))
       (λ κs qs bounds a g are. via 𝓤 _ (fst∗ 𝓤 _ (emp 𝓤)) (walk 𝓤 H A W mem run (κs .0) (qs .0) (a .0) C Λ fm known (typed 𝓤 H A W (κs .0) (a .0) (are .0))))
@@ -119,4 +122,4 @@ next-record-spec 𝓤 H 𝓜 𝓖 𝓡 =
     entered 𝓤 H (tripleOf 𝓤 H (𝓖 .A) next-record.signature (next-record.spec 𝓤 H (𝓖 .A) (𝓜 .mem) (𝓡 .run)))
     (tables 𝓤 H 𝓜 𝓡 code.env .C) (tables 𝓤 H 𝓜 𝓡 code.env .Λ) #next-record code.function (code.unfolded 𝓤 H 𝓜 𝓡)
     (next-record-meets 𝓤 H (𝓖 .A) (givenOf 𝓤 H 𝓜 𝓖) (𝓜 .mem) (𝓡 .run) (tablesOf 𝓤 H 𝓜 (tables 𝓤 H 𝓜 𝓡 code.env))
-    (cited 𝓤 H (Its 𝓤 H (𝓖 .A) record-at.ended (record-at.clauses 𝓤 H (𝓖 .A) (𝓜 .mem) (𝓡 .run))) 𝓜 𝓡 code.env #record-at record-at-def.routine code.calls-sheet·bytes·record-at (record-at-thm.met 𝓤 H 𝓜 𝓖 𝓡)))
+    (cited 𝓤 H (Its 𝓤 H (𝓖 .A) record-at.ended (record-at.clauses 𝓤 H (𝓖 .A) (𝓜 .mem) (𝓡 .run))) 𝓜 𝓡 code.env #record-at record-at-def.routine code.calls-sheet·record·record-at (record-at-thm.met 𝓤 H 𝓜 𝓖 𝓡)))

@@ -1,6 +1,7 @@
+-- `place_after` meets its contract.
 use Prim.Native.Nat.{ℕ, _+_}
 use mathlib.Core.Path.{_∙_, ap, sym}
-use Rattle.sheet.proofs.Pieces.{place-inside, place-past}
+use Rattle.sheet.proofs.RecordLaws.{place-inside, place-past}
 use borrow.Author.Needs.{needs}
 use Rattle.sheet.proofs.reader.place_after.Statement.{statement}
 use Rattle.sheet.proofs.reader.place_after.Tie as tie

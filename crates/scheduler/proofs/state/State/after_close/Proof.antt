@@ -1,9 +1,9 @@
 -- `State::after_close` meets its contract.
 use mathlib.Core.Path.{_∙_, ap}
 use Rattle.scheduler.specs.Prelude.{State}
-use Rattle.scheduler.specs.State.{eventCount}
+use Rattle.plan.specs.Plans.{eventCount}
 use Rattle.scheduler.specs.Calls.{settle, lapse}
-use Rattle.scheduler.proofs.Calling.{close-shut}
+use Rattle.scheduler.proofs.CallSteps.{close-shut}
 use borrow.Author.Needs.{needs}
 use Rattle.scheduler.proofs.state.State.after_close.Statement.{statement}
 use Rattle.scheduler.proofs.state.State.after_close.Tie as tie

@@ -6,10 +6,11 @@ use borrow.Author.Needs.{needs}
 use borrow.Author.Tests.{not-true, not-false}
 use mathlib.Core.Bool.{true}
 use mathlib.Core.Path.{_≡_, sym, _∙_}
-use Rattle.scheduler.specs.State.{eventCount}
-use Rattle.scheduler.specs.Faults.{coherentEvent}
-use Rattle.scheduler.proofs.Tests.{all-of}
-use Rattle.scheduler.proofs.Histories.{eventTest, event-test, all-fail}
+use Rattle.plan.specs.Plans.{eventCount}
+use Rattle.scheduler.specs.Coherent.{coherentEvent}
+use Rattle.plan.proofs.Tests.{all-of}
+use Rattle.scheduler.proofs.CoherentTests.{eventTest, event-test}
+use Rattle.plan.proofs.Loops.{all-fail}
 use Rattle.scheduler.proofs.state.State.are_events_coherent.Statement.{statement}
 use Rattle.scheduler.proofs.state.State.are_events_coherent.Tie as tie
 

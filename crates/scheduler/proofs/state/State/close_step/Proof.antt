@@ -1,6 +1,7 @@
 -- `State::close_step` meets its contract.
 use mathlib.Core.Path.{sym, _∙_}
-use Rattle.scheduler.proofs.Calling.{says-no, says-yes, close-incoherent, close-unknown, close-again, close-taken}
+use Rattle.scheduler.specs.Prelude.{Close, Unknown, AlreadyClosed}
+use Rattle.scheduler.proofs.CallSteps.{says-no, says-yes, call-incoherent, call-refused, call-taken, close-unknown, close-again, close-known, close-reply}
 use borrow.Author.Needs.{needs}
 use Rattle.scheduler.proofs.state.State.close_step.Statement.{statement}
 use Rattle.scheduler.proofs.state.State.close_step.Tie as tie
@@ -12,7 +13,7 @@ turn-down-requires : tie.Need-turn-down-requires
 turn-down-requires c κs = search needs
 
 returns : tie.Need-returns
-returns c = c .turn-down .ensures ∙ close-incoherent _ _ (says-no _ _ (c .before .before .is-coherent .ensures) (c .before .if1 .taken))
+returns c = c .turn-down .ensures ∙ call-incoherent _ _ (says-no _ _ (c .before .before .is-coherent .ensures) (c .before .if1 .taken))
 
 has-event-requires : tie.Need-has-event-requires
 has-event-requires c κs = search needs
@@ -21,7 +22,11 @@ turn-down-requires-2 : tie.Need-turn-down-requires-2
 turn-down-requires-2 c κs = search needs
 
 returns-2 : tie.Need-returns-2
-returns-2 c = c .turn-down2 .ensures ∙ close-unknown _ _ (says-yes _ _ (c .before .before .before .before .is-coherent .ensures) (c .before .before .before .if1 .left)) (says-no _ _ (c .before .before .has-event .ensures) (c .before .if2 .taken))
+returns-2 c =
+    let a = c .before .before .before .before .before .before .before .args in
+    let hangs = says-yes _ _ (c .before .before .before .before .is-coherent .ensures) (c .before .before .before .if1 .left) in
+    c .turn-down2 .ensures
+    ∙ call-refused (a .self) (Close (a .step)) hangs Unknown (close-unknown (a .self) (a .step) (says-no _ _ (c .before .before .has-event .ensures) (c .before .if2 .taken)))
 
 is-closed-in-requires : tie.Need-is-closed-in-requires
 is-closed-in-requires c κs = search needs
@@ -30,13 +35,27 @@ turn-down-requires-3 : tie.Need-turn-down-requires-3
 turn-down-requires-3 c κs = search needs
 
 returns-3 : tie.Need-returns-3
-returns-3 c = c .turn-down3 .ensures ∙ close-again _ _ (says-yes _ _ (c .before .before .before .before .before .before .is-coherent .ensures) (c .before .before .before .before .before .if1 .left)) (says-yes _ _ (c .before .before .before .before .has-event .ensures) (c .before .before .before .if2 .left)) (sym (c .before .before .is-closed-in .ensures) ∙ c .before .if3 .taken)
+returns-3 c =
+    let a = c .before .before .before .before .before .before .before .before .before .args in
+    let hangs = says-yes _ _ (c .before .before .before .before .before .before .is-coherent .ensures) (c .before .before .before .before .before .if1 .left) in
+    let known = says-yes _ _ (c .before .before .before .before .has-event .ensures) (c .before .before .before .if2 .left) in
+    c .turn-down3 .ensures
+    ∙ call-refused (a .self) (Close (a .step)) hangs AlreadyClosed (close-again (a .self) (a .step) known (sym (c .before .before .is-closed-in .ensures) ∙ c .before .if3 .taken))
 
 after-close-requires : tie.Need-after-close-requires
 after-close-requires c κs = search needs
 
 returns-4 : tie.Need-returns-4
-returns-4 c = close-taken _ _ _ (says-yes _ _ (c .before .before .before .before .before .before .is-coherent .ensures) (c .before .before .before .before .before .if1 .left)) (says-yes _ _ (c .before .before .before .before .has-event .ensures) (c .before .before .before .if2 .left)) (sym (c .before .before .is-closed-in .ensures) ∙ c .before .if3 .left) (c .after-close .ensures)
+returns-4 c =
+    let a = c .before .before .before .before .before .before .before .before .before .args in
+    let known = says-yes _ _ (c .before .before .before .before .has-event .ensures) (c .before .before .before .if2 .left) in
+    call-taken
+    (a .self)
+    (Close (a .step))
+    (says-yes _ _ (c .before .before .before .before .before .before .is-coherent .ensures) (c .before .before .before .before .before .if1 .left))
+    _
+    (close-known (a .self) (a .step) known (sym (c .before .before .is-closed-in .ensures) ∙ c .before .if3 .left))
+    (close-reply (a .self) (a .step) _ (c .after-close .ensures))
 
 pub close-step-spec : {M : Type 1} → statement M
 close-step-spec =

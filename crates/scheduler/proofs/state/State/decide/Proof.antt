@@ -1,7 +1,8 @@
 -- `State::decide` meets its contract.
 use mathlib.Core.Path.{_∙_, ap}
-use Rattle.scheduler.specs.State.{holdsBit}
-use Rattle.scheduler.proofs.Calling.{decide-found, decide-refused, decide-done}
+use Rattle.plan.specs.Plans.{holdsBit}
+use Rattle.scheduler.specs.Prelude.{Event}
+use Rattle.scheduler.proofs.CallSteps.{decide-found, decide-refused, decide-done}
 use borrow.Author.Needs.{needs}
 use Rattle.scheduler.proofs.state.State.decide.Statement.{statement}
 use Rattle.scheduler.proofs.state.State.decide.Tie as tie
@@ -15,8 +16,8 @@ do-order-requires c κs = search needs
 returns : tie.Need-returns
 returns c = decide-found _ _ _ (c .before .before .find-order .ensures) _ (c .before .if1 .taken) (c .do-order .ensures)
 
-attributes-in-requires : tie.Need-attributes-in-requires
-attributes-in-requires c κs = search needs
+event-in-requires : tie.Need-event-in-requires
+event-in-requires c κs = search needs
 
 is-rejectable-requires : tie.Need-is-rejectable-requires
 is-rejectable-requires c κs = search needs
@@ -25,13 +26,13 @@ settle-as-requires : tie.Need-settle-as-requires
 settle-as-requires c κs = search needs
 
 returns-2 : tie.Need-returns-2
-returns-2 c = decide-refused _ _ _ (c .before .before .before .before .before .find-order .ensures) _ _ (c .before .before .before .before .if1 .left) (c .before .before .is-rejectable .ensures ∙ ap (holdsBit 2) (c .before .before .before .attributes-in .ensures)) (c .before .if2 .taken) (c .settle-as .ensures)
+returns-2 c = decide-refused _ _ _ (c .before .before .before .before .before .find-order .ensures) _ _ (c .before .before .before .before .if1 .left) (c .before .before .is-rejectable .ensures ∙ ap (λ (v : Event). holdsBit 2 (v .attributes)) (c .before .before .before .event-in .ensures)) (c .before .if2 .taken) (c .settle-as .ensures)
 
 do-alone-requires : tie.Need-do-alone-requires
 do-alone-requires c κs = search needs
 
 returns-3 : tie.Need-returns-3
-returns-3 c = decide-done _ _ _ (c .before .before .before .before .before .find-order .ensures) _ _ (c .before .before .before .before .if1 .left) (c .before .before .is-rejectable .ensures ∙ ap (holdsBit 2) (c .before .before .before .attributes-in .ensures)) (c .before .if2 .left) (c .do-alone .ensures)
+returns-3 c = decide-done _ _ _ (c .before .before .before .before .before .find-order .ensures) _ _ (c .before .before .before .before .if1 .left) (c .before .before .is-rejectable .ensures ∙ ap (λ (v : Event). holdsBit 2 (v .attributes)) (c .before .before .before .event-in .ensures)) (c .before .if2 .left) (c .do-alone .ensures)
 
 pub decide-spec : {M : Type 1} → statement M
 decide-spec =
@@ -40,7 +41,7 @@ decide-spec =
     find-order-requires
     do-order-requires
     returns
-    attributes-in-requires
+    event-in-requires
     is-rejectable-requires
     settle-as-requires
     returns-2

@@ -5,7 +5,7 @@ use mathlib.Core.Path.{_≡_, sym, _∙_}
 use Rattle.scheduler.specs.Prelude.{Done}
 use Rattle.scheduler.specs.State.{settleAs}
 use Rattle.scheduler.specs.Calls.{recordBroken}
-use Rattle.scheduler.proofs.Calling.{record-zero, record-next, record-all}
+use Rattle.scheduler.proofs.CallSteps.{record-zero, record-next, record-all}
 use Rattle.scheduler.proofs.state.State.do_alone.Statement.{statement}
 use Rattle.scheduler.proofs.state.State.do_alone.Tie as tie
 

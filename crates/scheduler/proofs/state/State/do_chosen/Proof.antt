@@ -3,9 +3,10 @@ use Prim.Native.Nat.{_≤_, _-_}
 use native.Mathlib.Omega.{arith}
 use mathlib.Core.Logic.{⊎-elim}
 use Rattle.scheduler.specs.Orders.{doAll}
-use Rattle.scheduler.specs.State.{eventCount}
+use Rattle.plan.specs.Plans.{eventCount}
 use Rattle.scheduler.specs.Calls.{toDo}
-use Rattle.scheduler.proofs.Turning.{Rest, rest-all, rest-next, turn-here, turn-none, held-told, doing, doing-some, doing-missing, doing-none}
+use Rattle.plan.proofs.Loops.{Rest, rest-all, rest-next}
+use Rattle.scheduler.proofs.SettleLoops.{turn-made, turn-none, held-told, doing, doing-some, doing-missing, doing-none}
 use Rattle.scheduler.proofs.state.State.do_chosen.Statement.{statement}
 use Rattle.scheduler.proofs.state.State.do_chosen.Tie as tie
 
@@ -36,7 +37,7 @@ returns c =
     let at = c .before .before .before .before .before .before .before .loop in
     let s = c .before .before .before .before .before .before .before .before .before .before .args .self in
     let held = held-told s (at .e) _ _ _ (c .before .before .before .before .before .fate-in .ensures) (c .before .before .before .before .is-held .ensures) (c .before .before .before .if1 .taken) in
-    rw (c .do-order .ensures) (turn-here _ _ (at .e) (at .inv .1) s (doAll s) (omega arith) _ (doing-some s (at .e) _ (c .before .before .find-order .ensures) held (c .before .if2 .taken)))
+    rw (c .do-order .ensures) (turn-made _ _ (at .e) (at .inv .1) s (doAll s) (omega arith) _ (doing-some s (at .e) _ (c .before .before .find-order .ensures) held (c .before .if2 .taken)))
 
 add-e : tie.Need-add-e Inv-loop μ-loop
 add-e c = omega arith

@@ -5,7 +5,7 @@ use mathlib.Core.Logic.{⊎-elim}
 use mathlib.Core.Path.{_≡_, refl, sym, _∙_}
 use lib.ListN.{length, take, drop, length-map}
 use Rattle.scheduler.specs.Orders.{doAll}
-use Rattle.scheduler.proofs.Turning.{front-some, front-whole, do-next, do-end}
+use Rattle.scheduler.proofs.SettleLoops.{front-some, front-whole, do-next, do-end}
 use Rattle.scheduler.proofs.state.State.do_order.Statement.{statement}
 use Rattle.scheduler.proofs.state.State.do_order.Tie as tie
 
@@ -24,14 +24,14 @@ loop-holds c =
     (λ w. (omega arith, front-whole (f .events) (f .len) six (w .0 .left) ∙ sym (w .1), refl))
     (c .if1 .came)
 
-cast-settle-as : tie.Need-cast-settle-as Inv-loop μ-loop
-cast-settle-as c = omega arith
+cast-do-one : tie.Need-cast-do-one Inv-loop μ-loop
+cast-do-one c = omega arith
 
-array-read-settle-as : tie.Need-array-read-settle-as Inv-loop μ-loop
-array-read-settle-as c = omega arith
+array-read-do-one : tie.Need-array-read-do-one Inv-loop μ-loop
+array-read-do-one c = omega arith
 
-settle-as-requires : tie.Need-settle-as-requires Inv-loop μ-loop
-settle-as-requires c κs = tt
+do-one-requires : tie.Need-do-one-requires Inv-loop μ-loop
+do-one-requires c κs = tt
 
 add-i : tie.Need-add-i Inv-loop μ-loop
 add-i c = omega arith
@@ -42,7 +42,7 @@ loop-less c = omega arith
 loop-again : tie.Need-loop-again Inv-loop μ-loop
 loop-again c =
     let f = c .before .before .before .before .before .args .found in
-    (c .before .before .loop .inv .0, c .before .before .loop .inv .1, c .before .before .loop .inv .2 ∙ do-next (f .events) (f .len) (c .before .before .loop .i) _ (omega (arith, c .before .before .loop .inv .1)) ∙ rw (c .settle-as .ensures))
+    (c .before .before .loop .inv .0, c .before .before .loop .inv .1, c .before .before .loop .inv .2 ∙ do-next (f .events) (f .len) (c .before .before .loop .i) _ (omega (arith, c .before .before .loop .inv .1)) ∙ rw (c .do-one .ensures))
 
 returns : tie.Need-returns Inv-loop μ-loop
 returns c =
@@ -56,9 +56,9 @@ do-order-spec =
     Inv-loop
     μ-loop
     loop-holds
-    cast-settle-as
-    array-read-settle-as
-    settle-as-requires
+    cast-do-one
+    array-read-do-one
+    do-one-requires
     add-i
     loop-less
     loop-again

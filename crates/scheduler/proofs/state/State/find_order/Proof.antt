@@ -1,7 +1,7 @@
 -- `State::find_order` meets its contract. The loop: the lengths below k have no order.
 use Prim.Native.Nat.{_≤_, _-_}
 use native.Mathlib.Omega.{arith}
-use Rattle.scheduler.proofs.Scan.{Longer, longer-one, longer-none, longer-miss, longer-hit}
+use Rattle.scheduler.proofs.SearchLoops.{Longer, longer-one, longer-none, longer-miss, longer-hit}
 use Rattle.scheduler.proofs.state.State.find_order.Statement.{statement}
 use Rattle.scheduler.proofs.state.State.find_order.Tie as tie
 

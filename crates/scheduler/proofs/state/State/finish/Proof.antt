@@ -1,6 +1,7 @@
 -- `State::finish` meets its contract.
 use mathlib.Core.Path.{sym, _∙_}
-use Rattle.scheduler.proofs.Calling.{says-no, says-yes, finish-incoherent, finish-unclosed, finish-taken}
+use Rattle.scheduler.specs.Prelude.{Finish, NotClosed}
+use Rattle.scheduler.proofs.CallSteps.{says-no, says-yes, call-incoherent, call-refused, call-taken, finish-unclosed, finish-closed, finish-reply}
 use borrow.Author.Needs.{needs}
 use Rattle.scheduler.proofs.state.State.finish.Statement.{statement}
 use Rattle.scheduler.proofs.state.State.finish.Tie as tie
@@ -12,7 +13,7 @@ turn-down-requires : tie.Need-turn-down-requires
 turn-down-requires c κs = search needs
 
 returns : tie.Need-returns
-returns c = c .turn-down .ensures ∙ finish-incoherent _ (says-no _ _ (c .before .before .is-coherent .ensures) (c .before .if1 .taken))
+returns c = c .turn-down .ensures ∙ call-incoherent _ _ (says-no _ _ (c .before .before .is-coherent .ensures) (c .before .if1 .taken))
 
 has-unclosed-requires : tie.Need-has-unclosed-requires
 has-unclosed-requires c κs = search needs
@@ -21,13 +22,25 @@ turn-down-requires-2 : tie.Need-turn-down-requires-2
 turn-down-requires-2 c κs = search needs
 
 returns-2 : tie.Need-returns-2
-returns-2 c = c .turn-down2 .ensures ∙ finish-unclosed _ (says-yes _ _ (c .before .before .before .before .is-coherent .ensures) (c .before .before .before .if1 .left)) (sym (c .before .before .has-unclosed .ensures) ∙ c .before .if2 .taken)
+returns-2 c =
+    let a = c .before .before .before .before .before .args in
+    let hangs = says-yes _ _ (c .before .before .before .before .is-coherent .ensures) (c .before .before .before .if1 .left) in
+    c .turn-down2 .ensures
+    ∙ call-refused (a .self) Finish hangs NotClosed (finish-unclosed (a .self) (sym (c .before .before .has-unclosed .ensures) ∙ c .before .if2 .taken))
 
 after-finish-requires : tie.Need-after-finish-requires
 after-finish-requires c κs = search needs
 
 returns-3 : tie.Need-returns-3
-returns-3 c = finish-taken _ _ (says-yes _ _ (c .before .before .before .before .is-coherent .ensures) (c .before .before .before .if1 .left)) (sym (c .before .before .has-unclosed .ensures) ∙ c .before .if2 .left) (c .after-finish .ensures)
+returns-3 c =
+    let a = c .before .before .before .before .before .args in
+    call-taken
+    (a .self)
+    Finish
+    (says-yes _ _ (c .before .before .before .before .is-coherent .ensures) (c .before .before .before .if1 .left))
+    _
+    (finish-closed (a .self) (sym (c .before .before .has-unclosed .ensures) ∙ c .before .if2 .left))
+    (finish-reply (a .self) _ (c .after-finish .ensures))
 
 pub finish-spec : {M : Type 1} → statement M
 finish-spec =

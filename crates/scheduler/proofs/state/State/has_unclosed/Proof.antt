@@ -1,19 +1,19 @@
 -- `State::has_unclosed` meets its contract. The loop: no step below has an event and is not closed.
 use Prim.Native.Nat.{_≤_, _-_}
 use native.Mathlib.Omega.{arith}
-use mathlib.Core.Bool.{false}
+use mathlib.Core.Bool.{false, not, _&&_}
 use mathlib.Core.Path.{_≡_, refl}
-use Rattle.scheduler.specs.Base.{anyBelow}
-use Rattle.scheduler.proofs.Scan.{none-zero, none-next, some-hit, none-all}
-use Rattle.scheduler.proofs.Calling.{unclosedAt}
+use Rattle.plan.specs.Base.{anyBelow, readAt}
+use Rattle.plan.proofs.Loops.{none-zero, none-next, some-hit, none-all}
+use Rattle.plan.specs.Plans.{hasEvent}
 use Rattle.scheduler.proofs.state.State.has_unclosed.Statement.{statement}
 use Rattle.scheduler.proofs.state.State.has_unclosed.Tie as tie
 
 abbrev Inv-loop : tie.InvT-loop
-Inv-loop self closed step₀ step = (step ≤ 8) × (anyBelow step (unclosedAt self) ≡ false)
+Inv-loop plan closed step₀ step = (step ≤ 8) × (anyBelow step (λ k. hasEvent plan k && not (readAt 8 closed k false)) ≡ false)
 
 abbrev μ-loop : tie.MeasureT-loop
-μ-loop self closed step₀ step = 8 - step
+μ-loop plan closed step₀ step = 8 - step
 
 loop-holds : tie.Need-loop-holds Inv-loop μ-loop
 loop-holds c = (omega arith, none-zero _)

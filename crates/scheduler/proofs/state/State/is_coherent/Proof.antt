@@ -1,7 +1,7 @@
 -- `State::is_coherent` meets its contract.
 use borrow.Author.Needs.{needs}
 use mathlib.Core.Path.{sym, _∙_}
-use Rattle.scheduler.proofs.Histories.{many-fail, undeclared-fail, events-fail, rules-decide}
+use Rattle.scheduler.proofs.CoherentTests.{many-fail, undeclared-fail, events-fail, rules-decide}
 use Rattle.scheduler.proofs.state.State.is_coherent.Statement.{statement}
 use Rattle.scheduler.proofs.state.State.is_coherent.Tie as tie
 

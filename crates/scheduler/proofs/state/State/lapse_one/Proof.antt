@@ -1,6 +1,6 @@
 -- `State::lapse_one` meets its contract.
 use mathlib.Core.Path.{sym, _∙_}
-use Rattle.scheduler.proofs.Calling.{lapse-test, lapses, stays}
+use Rattle.scheduler.proofs.CallSteps.{lapse-test, lapses, stays}
 use borrow.Author.Needs.{needs}
 use Rattle.scheduler.proofs.state.State.lapse_one.Statement.{statement}
 use Rattle.scheduler.proofs.state.State.lapse_one.Tie as tie

@@ -3,7 +3,7 @@ use Prim.Native.Nat.{_≤_, _-_}
 use native.Mathlib.Omega.{arith}
 use mathlib.Core.Path.{_≡_, sym, _∙_}
 use Rattle.scheduler.specs.Calls.{lapse}
-use Rattle.scheduler.proofs.Calling.{lapse-zero, lapse-next, lapse-end}
+use Rattle.scheduler.proofs.CallSteps.{lapse-zero, lapse-next, lapse-end}
 use Rattle.scheduler.proofs.state.State.lapse_step.Statement.{statement}
 use Rattle.scheduler.proofs.state.State.lapse_step.Tie as tie
 

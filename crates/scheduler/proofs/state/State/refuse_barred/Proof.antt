@@ -3,11 +3,13 @@ use Prim.Native.Nat.{_≤_, _-_}
 use native.Mathlib.Omega.{arith}
 use mathlib.Core.Logic.{⊎-elim}
 use mathlib.Core.Path.{sym, _∙_}
-use Rattle.scheduler.specs.Base.{lowest}
-use Rattle.scheduler.specs.State.{eventCount, settleAs}
+use Rattle.plan.specs.Base.{lowest}
+use Rattle.plan.specs.Plans.{eventCount}
+use Rattle.scheduler.specs.State.{settleAs}
 use Rattle.scheduler.specs.Prelude.{Refused}
 use Rattle.scheduler.specs.Calls.{toRefuse}
-use Rattle.scheduler.proofs.Turning.{Rest, rest-all, rest-next, turn-here, turn-none, held-told, refusing, refusing-some, refusing-free, refusing-none}
+use Rattle.plan.proofs.Loops.{Rest, rest-all, rest-next}
+use Rattle.scheduler.proofs.SettleLoops.{turn-made, turn-none, held-told, refusing, refusing-some, refusing-free, refusing-none}
 use Rattle.scheduler.proofs.state.State.refuse_barred.Statement.{statement}
 use Rattle.scheduler.proofs.state.State.refuse_barred.Tie as tie
 
@@ -38,7 +40,7 @@ returns c =
     let at = c .before .before .before .before .before .before .before .loop in
     let s = c .before .before .before .before .before .before .before .before .before .before .args .self in
     let held = held-told s (at .e) _ _ _ (c .before .before .before .before .before .fate-in .ensures) (c .before .before .before .before .is-held .ensures) (c .before .before .before .if1 .taken) in
-    rw (c .settle-as .ensures) (turn-here _ _ (at .e) (at .inv .1) s (settleAs Refused s) (omega arith) (at .e) (refusing-some s (at .e) held (sym (c .before .before .is-barred .ensures) ∙ c .before .if2 .taken)))
+    rw (c .settle-as .ensures) (turn-made _ _ (at .e) (at .inv .1) s (settleAs Refused s) (omega arith) (at .e) (refusing-some s (at .e) held (sym (c .before .before .is-barred .ensures) ∙ c .before .if2 .taken)))
 
 add-e : tie.Need-add-e Inv-loop μ-loop
 add-e c = omega arith

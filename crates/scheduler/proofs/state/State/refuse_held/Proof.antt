@@ -3,7 +3,7 @@ use native.Mathlib.Omega.{arith}
 use borrow.Author.Tests.{not-true, not-false}
 use mathlib.Core.Path.{_≡_, refl, sym, _∙_}
 use Rattle.scheduler.specs.Calls.{refuseHeld}
-use Rattle.scheduler.proofs.Turning.{refuse-rest, refuse-more, refuse-end}
+use Rattle.scheduler.proofs.SettleLoops.{refuse-rest, refuse-more, refuse-end}
 use Rattle.scheduler.proofs.state.State.refuse_held.Statement.{statement}
 use Rattle.scheduler.proofs.state.State.refuse_held.Tie as tie
 

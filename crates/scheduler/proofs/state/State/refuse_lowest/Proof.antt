@@ -1,9 +1,10 @@
 -- `State::refuse_lowest` meets its contract. The loop: what is left of it from e on is the whole answer.
 use Prim.Native.Nat.{_≤_, _-_}
 use native.Mathlib.Omega.{arith}
-use Rattle.scheduler.specs.Base.{lowest}
-use Rattle.scheduler.specs.State.{eventCount}
-use Rattle.scheduler.proofs.Turning.{Rest, rest-all, rest-next, turn-here, turn-none, held-told, holding, holding-some, holding-none, refusedNext}
+use Rattle.plan.specs.Base.{lowest}
+use Rattle.plan.specs.Plans.{eventCount}
+use Rattle.plan.proofs.Loops.{Rest, rest-all, rest-next}
+use Rattle.scheduler.proofs.SettleLoops.{turn-made, turn-none, held-told, holding, holding-some, holding-none, refusedNext}
 use Rattle.scheduler.proofs.state.State.refuse_lowest.Statement.{statement}
 use Rattle.scheduler.proofs.state.State.refuse_lowest.Tie as tie
 
@@ -34,7 +35,7 @@ returns c =
     let at = c .before .before .before .before .before .before .loop in
     let s = c .before .before .before .before .before .before .before .before .before .args .self in
     let held = held-told s (at .e) _ _ _ (c .before .before .before .before .fate-in .ensures) (c .before .before .before .is-held .ensures) (c .before .before .if1 .taken) in
-    rw (c .settle .ensures, c .before .settle-as .ensures) (turn-here _ _ (at .e) (at .inv .1) s (refusedNext s) (omega arith) (at .e) (holding-some s (at .e) held))
+    rw (c .settle .ensures, c .before .settle-as .ensures) (turn-made _ _ (at .e) (at .inv .1) s (refusedNext s) (omega arith) (at .e) (holding-some s (at .e) held))
 
 add-e : tie.Need-add-e Inv-loop μ-loop
 add-e c = omega arith

@@ -3,7 +3,7 @@ use native.Mathlib.Omega.{arith}
 use borrow.Author.Tests.{not-true, not-false}
 use mathlib.Core.Path.{_≡_, refl, sym, _∙_}
 use Rattle.scheduler.specs.Calls.{settleUpTo, settle}
-use Rattle.scheduler.proofs.Turning.{up-rest, up-next, up-end}
+use Rattle.scheduler.proofs.SettleLoops.{up-rest, up-next, up-end}
 use Rattle.scheduler.proofs.state.State.settle.Statement.{statement}
 use Rattle.scheduler.proofs.state.State.settle.Tie as tie
 

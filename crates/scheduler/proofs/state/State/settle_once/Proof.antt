@@ -1,7 +1,7 @@
 -- `State::settle_once` meets its contract.
 use borrow.Author.Needs.{needs}
 use mathlib.Core.Path.{_∙_}
-use Rattle.scheduler.proofs.Turning.{once-refuses, once-does}
+use Rattle.scheduler.proofs.SettleLoops.{once-refuses, once-does}
 use Rattle.scheduler.proofs.state.State.settle_once.Statement.{statement}
 use Rattle.scheduler.proofs.state.State.settle_once.Tie as tie
 

@@ -1,0 +1,14 @@
+pub mod Tests
+pub mod Arrays
+pub mod ByteReads
+pub mod Fates
+pub mod RuleReads
+pub mod Loops
+pub mod Lines
+pub mod Tables
+pub mod Steps
+pub mod SheetReading
+pub mod CallRecords
+pub mod CallDecoding
+pub mod Cases
+pub mod FormatCases

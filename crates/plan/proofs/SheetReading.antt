@@ -1,0 +1,40 @@
+-- The reader's budget suffices: more changes nothing.
+use Prim.Native.Nat.{ℕ, zero, suc, _+_, _<_}
+use native.Mathlib.Omega.{arith}
+use mathlib.Core.Bool.{true, false}
+use mathlib.Core.List.{List}
+use mathlib.Core.Option.{none, some}
+use mathlib.Core.Path.{_≡_, refl, sym, _∙_, ap}
+use borrow.Author.Tests.{le-leb}
+use lib.Dec.{eqb}
+use lib.ListN.{length, getD}
+use Rattle.plan.specs.Prelude.{Plan, Cut}
+use Rattle.plan.specs.Plans.{emptyPlan}
+use Rattle.plan.specs.Faults.{firstFault}
+use Rattle.plan.specs.Records.{bodyLength, recordAt, declare, recordFault}
+use Rattle.plan.specs.Sheets.{PlanReading, whole, faulty, readFrom, readPlan}
+
+-- past the sheet's end there is no record
+past-end : (n : ℕ) (b : List ℕ) (at : ℕ) (p : Plan) → length b < at → readFrom n b at p ≡ faulty Cut at
+unfolding readFrom recordFault firstFault
+past-end zero b at p h = refl
+past-end (suc n) b at p h = rw (le-leb (length b) at (omega arith), readFrom, recordFault, firstFault)
+
+-- what the record at an offset comes to, where `later` is what the records after it come to
+abbrev record-then : List ℕ → ℕ → Plan → PlanReading → PlanReading
+record-then b at p later = elim (recordFault p (length b) at (recordAt b at)) [
+  | some f ↦ faulty f at
+  | none ↦ elim (eqb (getD b at 0) 5) [ true ↦ whole p (at + 1) | false ↦ later ]
+]
+
+-- each record takes a byte or more: two budgets that pass what is left of the sheet read the same
+same-reading : (n m : ℕ) (b : List ℕ) (at : ℕ) (p : Plan) → length b < n + at → length b < m + at → readFrom n b at p ≡ readFrom m b at p
+unfolding readFrom
+same-reading zero m b at p h k = sym (past-end m b at p (omega arith))
+same-reading (suc n) zero b at p h k = past-end (suc n) b at p (omega arith)
+same-reading (suc n) (suc m) b at p h k =
+    ap (record-then b at p) (same-reading n m b (at + 1 + bodyLength (getD b at 0)) (declare p (recordAt b at)) (omega arith) (omega arith))
+
+pub read-enough : (n : ℕ) (b : List ℕ) → length b < n → readFrom n b 0 emptyPlan ≡ readPlan b
+unfolding readPlan
+read-enough n b h = same-reading n (length b + 1) b 0 emptyPlan (omega arith) (omega arith)

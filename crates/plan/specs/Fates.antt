@@ -1,0 +1,38 @@
+-- Fates, and the array that holds one for each event.
+use Rattle.plan.specs.Prelude.{ℕ, Bool, true, false, _||_, List, eqb, Fate, Open, Held, Done, Refused, Lapsed, Standing}
+use Rattle.plan.specs.Base.{readAt}
+
+-- "An event is open (not handed in), held, done, refused or lapsed. The last three are settled"
+abbrev pub isOpen : Fate → Bool
+isOpen x = elim x [ Open ↦ true | Held ↦ false | Done ↦ false | Refused ↦ false | Lapsed ↦ false ]
+
+abbrev pub isHeld : Fate → Bool
+isHeld x = elim x [ Open ↦ false | Held ↦ true | Done ↦ false | Refused ↦ false | Lapsed ↦ false ]
+
+abbrev pub isDone : Fate → Bool
+isDone x = elim x [ Open ↦ false | Held ↦ false | Done ↦ true | Refused ↦ false | Lapsed ↦ false ]
+
+-- refused or lapsed
+abbrev pub isGone : Fate → Bool
+isGone x = elim x [ Open ↦ false | Held ↦ false | Done ↦ false | Refused ↦ true | Lapsed ↦ true ]
+
+abbrev pub isSettled : Fate → Bool
+isSettled x = isDone x || isGone x
+
+abbrev pub fateNumber : Fate → ℕ
+fateNumber x = elim x [ Open ↦ 0 | Held ↦ 1 | Done ↦ 2 | Refused ↦ 3 | Lapsed ↦ 4 ]
+
+abbrev pub sameFate : Fate → Fate → Bool
+sameFate x y = eqb (fateNumber x) (fateNumber y)
+
+-- what stands in an unused place
+abbrev pub blankStanding : Standing
+blankStanding = record { fate = Open }
+
+-- a fate for each event number
+abbrev pub Fates : Type 0
+Fates = ℕ → Fate
+
+-- the fates that an array holds
+abbrev pub fatesOf : List Standing → Fates
+fatesOf l e = readAt 16 l e blankStanding .fate

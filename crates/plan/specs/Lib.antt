@@ -1,0 +1,10 @@
+pub mod Prelude
+pub mod Base
+pub mod Fates
+pub mod Plans
+pub mod Rules
+pub mod Histories
+pub mod Faults
+pub mod Records
+pub mod Sheets
+pub mod Calls

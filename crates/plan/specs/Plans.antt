@@ -1,0 +1,54 @@
+-- What a sheet declares: events with their step and attributes, and rules.
+use Rattle.plan.specs.Prelude.{ℕ, _/_, _%_, Bool, eqb, replicate, Event, Rule, Order, RuleLine, Plan}
+use Rattle.plan.specs.Base.{anyBelow, readAt}
+
+-- what stands in an unused place
+abbrev pub blankEvent : Event
+blankEvent = record { step = 0; attributes = 0 }
+
+abbrev pub blankRule : RuleLine
+blankRule = record { rule = Order 0 0 }
+
+abbrev pub emptyPlan : Plan
+emptyPlan = record {
+  events = replicate 16 blankEvent;
+  «event_count» = 0;
+  rules = replicate 16 blankRule;
+  «rule_count» = 0;
+}
+
+-- reading a plan
+abbrev pub eventCount : Plan → ℕ
+eventCount p = p .«event_count»
+
+abbrev pub ruleCount : Plan → ℕ
+ruleCount p = p .«rule_count»
+
+abbrev pub eventAt : Plan → ℕ → Event
+eventAt p e = readAt 16 (p .events) e blankEvent
+
+abbrev pub stepOf : Plan → ℕ → ℕ
+stepOf p e = eventAt p e .step
+
+abbrev pub attributesOf : Plan → ℕ → ℕ
+attributesOf p e = eventAt p e .attributes
+
+abbrev pub ruleAt : Plan → ℕ → Rule
+ruleAt p i = readAt 16 (p .rules) i blankRule .rule
+
+-- "Attributes are a sum: 1 forcible, 2 rejectable, 4 delayable."
+abbrev pub holdsBit : ℕ → ℕ → Bool
+holdsBit k n = eqb (n / k % 2) 1
+
+abbrev pub forcible : Plan → ℕ → Bool
+forcible p e = holdsBit 1 (attributesOf p e)
+
+abbrev pub rejectable : Plan → ℕ → Bool
+rejectable p e = holdsBit 2 (attributesOf p e)
+
+abbrev pub delayable : Plan → ℕ → Bool
+delayable p e = holdsBit 4 (attributesOf p e)
+
+-- step k has an event
+unfoldable pub hasEvent : Plan → ℕ → Bool
+hasEvent p k = anyBelow (eventCount p) (λ e. eqb (stepOf p e) k)

@@ -1,0 +1,64 @@
+// Why a sheet or a call is turned down, and what it answers.
+use super::fate::Fate;
+ghost use mathlib.Core.Path.{_≡_};
+ghost use Rattle.plan.specs.Faults.{sheetFaultNumber, callFaultNumber};
+
+// Why a sheet is turned down, in the order of the numbers 1 to 8.
+pub enum SheetFault {
+    Cut,
+    BadKind,
+    Full,
+    BadStep,
+    BadAttributes,
+    BadNames,
+    Unenforceable,
+    Extra,
+}
+
+// Why a call is turned down, in the order of the numbers 9 to 12.
+pub enum CallFault {
+    Unknown,
+    AlreadyClosed,
+    NotClosed,
+    Incoherent,
+}
+
+// What a call answers: a hand-in the event's fate, the others that they were made.
+pub enum Answer {
+    Is(Fate),
+    Made,
+    TurnedDown(CallFault),
+}
+
+// What reading a sheet comes to: admitted, or the fault and its offset.
+pub enum Verdict {
+    Admitted,
+    Faulty(SheetFault, usize),
+}
+
+// The number that document 01's table gives.
+pub fn sheet_fault_number(fault: SheetFault) -> usize
+    ensures { λ r. ⌜ r ≡ sheetFaultNumber fault ⌝ }
+{
+    match fault {
+        SheetFault::Cut => 1,
+        SheetFault::BadKind => 2,
+        SheetFault::Full => 3,
+        SheetFault::BadStep => 4,
+        SheetFault::BadAttributes => 5,
+        SheetFault::BadNames => 6,
+        SheetFault::Unenforceable => 7,
+        SheetFault::Extra => 8,
+    }
+}
+
+pub fn call_fault_number(fault: CallFault) -> usize
+    ensures { λ r. ⌜ r ≡ callFaultNumber fault ⌝ }
+{
+    match fault {
+        CallFault::Unknown => 9,
+        CallFault::AlreadyClosed => 10,
+        CallFault::NotClosed => 11,
+        CallFault::Incoherent => 12,
+    }
+}

@@ -1,0 +1,111 @@
+// Fates, and the array that holds one for each event.
+ghost use mathlib.Core.Path.{_≡_};
+ghost use Rattle.plan.specs.Base.{readAt};
+ghost use Rattle.plan.specs.Fates.{isOpen, isHeld, isDone, isGone, isSettled, fateNumber, sameFate, blankStanding};
+
+// An event is open (not handed in), held, done, refused or lapsed.
+pub enum Fate {
+    Open,
+    Held,
+    Done,
+    Refused,
+    Lapsed,
+}
+
+// An event's fate in its place.
+pub struct Standing {
+    pub fate: Fate,
+}
+
+pub fn is_open(x: Fate) -> bool
+    ensures { λ r. ⌜ r ≡ isOpen x ⌝ }
+{
+    match x {
+        Fate::Open => true,
+        Fate::Held => false,
+        Fate::Done => false,
+        Fate::Refused => false,
+        Fate::Lapsed => false,
+    }
+}
+
+pub fn is_held(x: Fate) -> bool
+    ensures { λ r. ⌜ r ≡ isHeld x ⌝ }
+{
+    match x {
+        Fate::Open => false,
+        Fate::Held => true,
+        Fate::Done => false,
+        Fate::Refused => false,
+        Fate::Lapsed => false,
+    }
+}
+
+pub fn is_done(x: Fate) -> bool
+    ensures { λ r. ⌜ r ≡ isDone x ⌝ }
+{
+    match x {
+        Fate::Open => false,
+        Fate::Held => false,
+        Fate::Done => true,
+        Fate::Refused => false,
+        Fate::Lapsed => false,
+    }
+}
+
+// Refused or lapsed.
+pub fn is_gone(x: Fate) -> bool
+    ensures { λ r. ⌜ r ≡ isGone x ⌝ }
+{
+    match x {
+        Fate::Open => false,
+        Fate::Held => false,
+        Fate::Done => false,
+        Fate::Refused => true,
+        Fate::Lapsed => true,
+    }
+}
+
+pub fn is_settled(x: Fate) -> bool
+    ensures { λ r. ⌜ r ≡ isSettled x ⌝ }
+{
+    match x {
+        Fate::Open => false,
+        Fate::Held => false,
+        Fate::Done => true,
+        Fate::Refused => true,
+        Fate::Lapsed => true,
+    }
+}
+
+// The fate in a place; past the places, the blank's.
+pub fn fate_in(standings: [Standing; 16], event: u8) -> Fate
+    ensures { λ r. ⌜ r ≡ readAt 16 standings event blankStanding .fate ⌝ }
+{
+    if event < 16 {
+        let standing = standings[event as usize];
+        let fate = standing.fate;
+        fate
+    } else {
+        Fate::Open
+    }
+}
+
+// Two fates are compared by their numbers.
+pub fn is_same(x: Fate, y: Fate) -> bool
+    ensures { λ r. ⌜ r ≡ sameFate x y ⌝ }
+{
+    fate_number(x) == fate_number(y)
+}
+
+fn fate_number(x: Fate) -> u8
+    ensures { λ r. ⌜ r ≡ fateNumber x ⌝ }
+{
+    match x {
+        Fate::Open => 0,
+        Fate::Held => 1,
+        Fate::Done => 2,
+        Fate::Refused => 3,
+        Fate::Lapsed => 4,
+    }
+}

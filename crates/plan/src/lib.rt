@@ -1,0 +1,12 @@
+// What a sheet declares, what rules say of it and of the fates of its events, and the formats of sheets and calls: types, and tests of
+// single events, rules and lines. The definitions stand in specs/.
+pub mod answer;
+pub mod bytes;
+pub mod calls;
+pub mod event;
+pub mod fate;
+pub mod history;
+pub mod mark;
+pub mod plan;
+pub mod record;
+pub mod rule;

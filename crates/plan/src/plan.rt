@@ -1,0 +1,51 @@
+// What a sheet declares.
+use super::event::Event;
+use super::event::event_in;
+use super::rule::Rule;
+use super::rule::RuleLine;
+ghost use mathlib.Core.Path.{_≡_};
+ghost use Rattle.plan.specs.Plans.{emptyPlan, hasEvent};
+
+// Events with their step and attributes, and rules. No call changes it.
+pub struct Plan {
+    pub events: [Event; 16],
+    pub event_count: u8,
+    pub rules: [RuleLine; 16],
+    pub rule_count: u8,
+}
+
+// No event and no rule.
+pub fn empty_plan() -> Plan
+    ensures { λ r. ⌜ r ≡ emptyPlan ⌝ }
+{
+    let events = [Event {
+        step: 0,
+        attributes: 0,
+    }; 16];
+    let rules = [RuleLine {
+        rule: Rule::Order(0, 0),
+    }; 16];
+    Plan {
+        events,
+        event_count: 0,
+        rules,
+        rule_count: 0,
+    }
+}
+
+// Has the step an event?
+pub fn has_event(plan: Plan, step: u8) -> bool
+    ensures { λ r. ⌜ r ≡ hasEvent plan step ⌝ }
+{
+    let events = plan.events;
+    let n = plan.event_count;
+    let mut e: u8 = 0;
+    while e < n {
+        let event = event_in(events, e);
+        if event.step == step {
+            return true;
+        }
+        e += 1;
+    }
+    false
+}

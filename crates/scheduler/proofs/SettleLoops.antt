@@ -1,0 +1,216 @@
+-- Settling in code: what the found order is, and what its loops say at each of their ends.
+use Prim.Native.Nat.{ℕ, zero, suc, _+_, _-_, _≤_, _<_}
+use native.Mathlib.Numerals.{add-one, sub-one}
+use native.Mathlib.Omega.{arith}
+use mathlib.Core.Bool.{Bool, true, false, _&&_}
+use mathlib.Core.List.{List, [], _∷_}
+use mathlib.Core.Option.{Option, none, some, Option·map}
+use mathlib.Core.Path.{_≡_, refl, sym, _∙_, ap}
+use lib.ListN.{length, getD, take, drop, drop-of-length-le}
+use lib.Seq.{drop-cons, length-take-le, take-all}
+use Rattle.scheduler.specs.declared.order.Found.{Found}
+use Rattle.scheduler.specs.declared.settle.Turned.{Turned}
+use Rattle.scheduler.specs.Prelude.{Fate, Done, Refused, State}
+use Rattle.plan.specs.Base.{firstOf, when, tabulate}
+use Rattle.scheduler.specs.Orders.{doAll, chosen, foundOrder}
+use Rattle.scheduler.specs.State.{fateOf, settleAs}
+use Rattle.plan.specs.Fates.{isHeld}
+use Rattle.scheduler.specs.Rules.{barred}
+use Rattle.scheduler.specs.Calls.{toRefuse, toDo, settleOnce, settleUpTo, settle, refuseHeld}
+use Rattle.scheduler.specs.Internal.Turned.{turnOf}
+use Rattle.plan.proofs.Tests.{clash, first-some, some-none}
+use Rattle.scheduler.proofs.Branches.{upTo-none, upTo-some, lowestHeld, refuse-none, refuse-some}
+use Rattle.plan.proofs.Loops.{Rest, first-here, first-end}
+use Rattle.scheduler.proofs.Searching.{order-some}
+
+-- an order of at most six events stands whole at the front of its array
+whole-order : (o : List ℕ) → length o ≤ 6 → take (length o) (tabulate 6 0 (λ i. getD o i 0)) ≡ o
+unfolding tabulate
+whole-order [] h = refl
+whole-order (a ∷ []) h = refl
+whole-order (a ∷ b ∷ []) h = refl
+whole-order (a ∷ b ∷ c ∷ []) h = refl
+whole-order (a ∷ b ∷ c ∷ d ∷ []) h = refl
+whole-order (a ∷ b ∷ c ∷ d ∷ e ∷ []) h = refl
+whole-order (a ∷ b ∷ c ∷ d ∷ e ∷ f ∷ []) h = refl
+whole-order (a ∷ b ∷ c ∷ d ∷ e ∷ f ∷ g ∷ o) h = absurd (omega arith)
+
+-- the chosen order has at most six events
+chosen-short : (s : State) (e : ℕ) (o : List ℕ) → chosen s e ≡ some o → length o ≤ 6
+unfolding chosen
+chosen-short s e o h =
+    let f = first-some 6 1 _ o h in
+    omega (arith, order-some (λ c. true) (f .place) s e false o (f .gives) .0 .long, f .upto)
+
+-- where a search found an order, that is the chosen one, and it stands at the front of the array
+found-order : (s : State) (e : ℕ) (q : Option (List ℕ)) → chosen s e ≡ q → (r : Found) → r ≡ foundOrder q → r .ok ≡ true → (o : List ℕ) × (chosen s e ≡ some o) × (take (r .len) (r .events) ≡ o)
+unfolding foundOrder
+found-order s e none is r same t = absurd (clash t (ap (λ (w : Found). w .ok) same))
+found-order s e (some o) is r same t = (o, is, ap (λ (w : Found). take (w .len) (w .events)) same ∙ whole-order o (chosen-short s e o is))
+
+pub order-found : (s : State) (e : ℕ) (r : Found) → r ≡ foundOrder (chosen s e) → r .ok ≡ true → (o : List ℕ) × (chosen s e ≡ some o) × (take (r .len) (r .events) ≡ o)
+order-found s e = found-order s e (chosen s e) refl
+
+-- where a search found none, there is no chosen order
+missing-order : (q : Option (List ℕ)) (r : Found) → r ≡ foundOrder q → r .ok ≡ false → q ≡ none
+unfolding foundOrder
+missing-order none r same f = refl
+missing-order (some o) r same f = absurd (clash (ap (λ (w : Found). w .ok) same) f)
+
+pub order-missing : (s : State) (e : ℕ) (r : Found) → r ≡ foundOrder (chosen s e) → r .ok ≡ false → chosen s e ≡ none
+order-missing s e = missing-order (chosen s e)
+
+-- an event of an order stands in the array that holds the order
+front-same : (n : ℕ) (l : List ℕ) (i : ℕ) → i < length (take n l) → getD (take n l) i 0 ≡ getD l i 0
+front-same zero l i lt = absurd (omega arith)
+front-same (suc n) [] i lt = refl
+front-same (suc n) (x ∷ l) zero lt = refl
+front-same (suc n) (x ∷ l) (suc i) lt = front-same n l i (omega arith)
+
+-- how many events the first n of an array of six are
+pub front-some : (l : List ℕ) (n : ℕ) → length l ≡ 6 → n < 6 → length (take n l) ≡ n
+front-some l n six lt = length-take-le n l (omega arith)
+
+pub front-whole : (l : List ℕ) (n : ℕ) → length l ≡ 6 → 6 ≤ n → length (take n l) ≡ 6
+front-whole l n six ge = ap length (take-all n l (omega arith)) ∙ six
+
+-- a loop over an order: its event i is done, and at its end nothing is left to do
+module _ (l : List ℕ) (n i : ℕ) (s : State) where
+  pub do-next : i < length (take n l) → doAll s (drop i (take n l)) ≡ doAll (settleAs Done s (getD l i 0)) (drop (i + 1) (take n l))
+  unfolding doAll
+  do-next lt = rw (drop-cons (take n l) i 0 lt, front-same n l i lt, add-one i)
+
+  pub do-end : length (take n l) ≤ i → doAll s (drop i (take n l)) ≡ s
+  unfolding doAll
+  do-end le = rw (drop-of-length-le (take n l) {i = i} le)
+
+-- a loop that makes a turn at the first event that gives something
+module _ {A : Type 0} (n : ℕ) (g : ℕ → Option A) (x : ℕ) (before : Rest n g x) (s : State) (f : A → State) where
+  pub turn-made : x < n → (a : A) → g x ≡ some a → record { moved = true; state = f a } ≡ turnOf s (Option·map f (firstOf n 0 g))
+  unfolding turnOf
+  turn-made lt a here = rw (before, first-here n x g a lt here)
+
+  pub turn-none : n ≤ x → record { moved = false; state = s } ≡ turnOf s (Option·map f (firstOf n 0 g))
+  unfolding turnOf
+  turn-none ge = rw (before, first-end n x g ge)
+
+-- what code is told of an event's being held is what the state says
+pub held-told : (s : State) (e : ℕ) (x : Fate) (b t : Bool) → x ≡ fateOf s e → b ≡ isHeld x → b ≡ t → isHeld (fateOf s e) ≡ t
+held-told s e x b t f h a = ap isHeld (sym f) ∙ sym h ∙ a
+
+-- an event that is to be refused: it is held and barred
+module _ (s : State) (e : ℕ) where
+  abbrev pub refusing : Option ℕ
+  refusing = when (isHeld (fateOf s e) && barred s e) (some e)
+
+  pub refusing-some : isHeld (fateOf s e) ≡ true → barred s e ≡ true → refusing ≡ some e
+  refusing-some h b = rw (h, b)
+
+  pub refusing-free : isHeld (fateOf s e) ≡ true → barred s e ≡ false → refusing ≡ none
+  refusing-free h b = rw (h, b)
+
+  pub refusing-none : isHeld (fateOf s e) ≡ false → refusing ≡ none
+  refusing-none h = rw h
+
+-- an event that is to be refused in winding up: it is held
+module _ (s : State) (e : ℕ) where
+  abbrev pub holding : Option ℕ
+  holding = when (isHeld (fateOf s e)) (some e)
+
+  pub holding-some : isHeld (fateOf s e) ≡ true → holding ≡ some e
+  holding-some h = rw h
+
+  pub holding-none : isHeld (fateOf s e) ≡ false → holding ≡ none
+  holding-none h = rw h
+
+-- an event whose chosen order is to be done: it is held and has one
+module _ (s : State) (e : ℕ) where
+  abbrev pub doing : Option (List ℕ)
+  doing = when (isHeld (fateOf s e)) (chosen s e)
+
+  module _ (r : Found) (same : r ≡ foundOrder (chosen s e)) where
+    pub doing-some : isHeld (fateOf s e) ≡ true → r .ok ≡ true → doing ≡ some (take (r .len) (r .events))
+    doing-some h t = let f = order-found s e r same t in rw (h, f .1, f .2)
+
+    pub doing-missing : isHeld (fateOf s e) ≡ true → r .ok ≡ false → doing ≡ none
+    doing-missing h f = rw (h, order-missing s e r same f)
+
+  pub doing-none : isHeld (fateOf s e) ≡ false → doing ≡ none
+  doing-none h = rw h
+
+-- whether a turn was made, and the state after it
+module _ (s : State) where
+  turned-some : (q : Option State) (r : Turned) → r ≡ turnOf s q → r .moved ≡ true → q ≡ some (r .state)
+  unfolding turnOf
+  turned-some none r same t = absurd (clash t (ap (λ (w : Turned). w .moved) same))
+  turned-some (some u) r same t = ap (λ (w : Turned). some (w .state)) (sym same)
+
+  turned-none : (q : Option State) (r : Turned) → r ≡ turnOf s q → r .moved ≡ false → q ≡ none
+  unfolding turnOf
+  turned-none none r same f = refl
+  turned-none (some u) r same f = absurd (clash (ap (λ (w : Turned). w .moved) same) f)
+
+-- a turn of settling refuses an event, or does an order where there is none to refuse
+module _ (s : State) where
+  refuse-turn : (q : Option ℕ) → toRefuse s ≡ q → (r : Turned) → r ≡ turnOf s (Option·map (settleAs Refused s) q) → r .moved ≡ true → r ≡ turnOf s (settleOnce s)
+  unfolding settleOnce
+  refuse-turn none is r same t = absurd (some-none (sym (turned-some s none r same t)))
+  refuse-turn (some e) is r same t = same ∙ ap (turnOf s) (rw (is, settleOnce))
+
+  do-turn : (q : Option ℕ) → toRefuse s ≡ q → (r : Turned) → r ≡ turnOf s (Option·map (settleAs Refused s) q) → r .moved ≡ false → Option·map (doAll s) (toDo s) ≡ settleOnce s
+  unfolding settleOnce
+  do-turn none is r same f = rw (is, settleOnce)
+  do-turn (some e) is r same f = absurd (some-none (turned-none s (some (settleAs Refused s e)) r same f))
+
+  module _ (r : Turned) (same : r ≡ turnOf s (Option·map (settleAs Refused s) (toRefuse s))) where
+    pub once-refuses : r .moved ≡ true → r ≡ turnOf s (settleOnce s)
+    once-refuses = refuse-turn (toRefuse s) refl r same
+
+    pub once-does : r .moved ≡ false → turnOf s (Option·map (doAll s) (toDo s)) ≡ turnOf s (settleOnce s)
+    once-does f = ap (turnOf s) (do-turn (toRefuse s) refl r same f)
+
+-- a loop of turns: none is left to make, or one is made
+module _ (s : State) (r : Turned) (same : r ≡ turnOf s (settleOnce s)) where
+  pub up-rest : (n : ℕ) → 0 < n → r .moved ≡ false → settleUpTo n s ≡ s
+  up-rest zero lt f = absurd (omega arith)
+  up-rest (suc n) lt f = upTo-none n s (turned-none s (settleOnce s) r same f)
+
+  pub up-next : (n : ℕ) → 0 < n → r .moved ≡ true → settleUpTo n s ≡ settleUpTo (n - 1) (r .state)
+  up-next zero lt t = absurd (omega arith)
+  up-next (suc n) lt t = upTo-some n s (r .state) (turned-some s (settleOnce s) r same t) ∙ rw sub-one
+
+-- no turn may be made any more
+pub up-end : (n : ℕ) (s : State) → n ≤ 0 → settleUpTo n s ≡ s
+unfolding settleUpTo
+up-end zero s le = refl
+up-end (suc n) s le = absurd (omega arith)
+
+-- a loop that refuses the lowest held event and settles: none is held, or one is refused
+module _ (s : State) where
+  abbrev pub refusedNext : ℕ → State
+  refusedNext e = settle (settleAs Refused s e)
+
+  held-rest : (q : Option ℕ) → lowestHeld s ≡ q → (n : ℕ) → Option·map refusedNext q ≡ none → refuseHeld (suc n) s ≡ s
+  held-rest none is n h = refuse-none n s is
+  held-rest (some e) is n h = absurd (some-none h)
+
+  held-next : (q : Option ℕ) → lowestHeld s ≡ q → (n : ℕ) (t : State) → Option·map refusedNext q ≡ some t → refuseHeld (suc n) s ≡ refuseHeld n t
+  held-next none is n t h = absurd (some-none (sym h))
+  held-next (some e) is n t h =
+      let here : refusedNext e ≡ t = cc in
+      refuse-some n s e is ∙ ap (refuseHeld n) here
+
+  module _ (r : Turned) (same : r ≡ turnOf s (Option·map refusedNext (lowestHeld s))) where
+    pub refuse-rest : (n : ℕ) → 0 < n → r .moved ≡ false → refuseHeld n s ≡ s
+    refuse-rest zero lt f = absurd (omega arith)
+    refuse-rest (suc n) lt f = held-rest (lowestHeld s) refl n (turned-none s _ r same f)
+
+    pub refuse-more : (n : ℕ) → 0 < n → r .moved ≡ true → refuseHeld n s ≡ refuseHeld (n - 1) (r .state)
+    refuse-more zero lt t = absurd (omega arith)
+    refuse-more (suc n) lt t = held-next (lowestHeld s) refl n (r .state) (turned-some s _ r same t) ∙ rw sub-one
+
+-- no event may be refused any more
+pub refuse-end : (n : ℕ) (s : State) → n ≤ 0 → refuseHeld n s ≡ s
+unfolding refuseHeld
+refuse-end zero s le = refl
+refuse-end (suc n) s le = absurd (omega arith)

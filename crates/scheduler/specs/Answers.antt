@@ -1,0 +1,34 @@
+-- A call: when it is turned down, and what it answers.
+use Rattle.scheduler.specs.Prelude.{ℕ, Bool, not, _&&_, List, [], _∷_, Option, none, some, leb, State, Call, Submit, Close, Finish, CallFault, Unknown, AlreadyClosed, NotClosed, Incoherent, Is, Made, TurnedDown, Reply}
+use Rattle.plan.specs.Base.{anyBelow}
+use Rattle.plan.specs.Plans.{eventCount, hasEvent}
+use Rattle.plan.specs.Faults.{firstFault}
+use Rattle.scheduler.specs.State.{fateOf, closedAt}
+use Rattle.scheduler.specs.Calls.{submit, closeStep, finish}
+use Rattle.scheduler.specs.Coherent.{coherent}
+
+-- some step has an event and is not closed
+abbrev pub unclosedAt : State → ℕ → Bool
+unclosedAt s k = hasEvent (s .plan) k && not (closedAt s k)
+
+-- the table's rows for calls: "12 is tested first, then 9, then 10 or 11"
+abbrev pub callRows : State → Call → List (Bool × CallFault)
+callRows s (Submit e) = (leb (eventCount (s .plan)) e, Unknown) ∷ []
+callRows s (Close k) = (not (hasEvent (s .plan) k), Unknown) ∷ (closedAt s k, AlreadyClosed) ∷ []
+callRows s Finish = (anyBelow 8 (unclosedAt s), NotClosed) ∷ []
+
+unfoldable pub callFault : State → Call → Option CallFault
+callFault s c = firstFault ((not (coherent s), Incoherent) ∷ callRows s c)
+
+-- "Each call takes a funeral's state and gives the state after it."
+unfoldable pub accept : State → Call → Reply
+accept s (Submit e) = let t = submit s e in record { answer = Is (fateOf t e); state = t }
+accept s (Close k) = record { answer = Made; state = closeStep s k }
+accept s Finish = record { answer = Made; state = finish s }
+
+-- a call turned down gives back the state as it came in
+abbrev pub turnedDownBy : CallFault → State → Reply
+turnedDownBy f s = record { answer = TurnedDown f; state = s }
+
+unfoldable pub call : State → Call → Reply
+call s c = elim (callFault s c) [ some f ↦ turnedDownBy f s | none ↦ accept s c ]

@@ -1,0 +1,33 @@
+-- Number 12: whether a state hangs together.
+use Rattle.scheduler.specs.Prelude.{ℕ, Bool, not, _&&_, _||_, leb, State}
+use Rattle.plan.specs.Base.{allBelow}
+use Rattle.plan.specs.Fates.{isOpen, isHeld}
+use Rattle.plan.specs.Plans.{eventCount, ruleCount, stepOf, ruleAt, delayable}
+use Rattle.plan.specs.Rules.{soundEvent, soundRule, owes}
+use Rattle.plan.specs.Histories.{holds, declaredOnly, listedAs}
+use Rattle.scheduler.specs.State.{fateOf, brokenAt, closedAt, lineCount, lines}
+
+unfoldable pub coherentEvent : State → ℕ → Bool
+coherentEvent s e =
+    soundEvent (s .plan) e
+    && listedAs (lines s) e (fateOf s e)
+    && not (isHeld (fateOf s e) && not (delayable (s .plan) e))
+    && not (isOpen (fateOf s e) && closedAt s (stepOf (s .plan) e))
+
+unfoldable pub coherentRule : State → ℕ → Bool
+coherentRule s i =
+    soundRule (s .plan) i
+    && (brokenAt s i
+    || (not (owes (s .plan) (fateOf s) (ruleAt (s .plan) i)) && holds (lines s) (ruleAt (s .plan) i)))
+
+-- 12 does not apply. "A state fails 12 if a count passes its limit, a declared event or rule is one that a sheet would be turned down for,
+-- the history doesn't list exactly the settled events once each with their fates, a held event isn't delayable, an open event's step is
+-- closed, or an unbroken rule owes or doesn't hold."
+unfoldable pub coherent : State → Bool
+coherent s =
+    leb (eventCount (s .plan)) 16
+    && leb (ruleCount (s .plan)) 16
+    && leb (lineCount s) 16
+    && declaredOnly (lines s) (eventCount (s .plan))
+    && allBelow (eventCount (s .plan)) (coherentEvent s)
+    && allBelow (ruleCount (s .plan)) (coherentRule s)

@@ -1,0 +1,50 @@
+-- Demand 2's grounds, of any scheduler: the writes of a call, one after another, each with its ground. "Nothing else refuses an event."
+use Rattle.scheduler.specs.Prelude.{ℕ, true, false, List, _≡_, Open, Held, Refused, Lapsed, State, Call, Submit, Close, Finish}
+use Rattle.plan.specs.Plans.{stepOf, rejectable, delayable}
+use Rattle.scheduler.specs.State.{fateOf, hold, settleAs, shut, Sized}
+use Rattle.scheduler.specs.Rules.{barred}
+use Rattle.scheduler.specs.Orders.{Viable, First, doAll}
+use Rattle.scheduler.specs.Calls.{Lowest, IsHeld, Turn, doAlone}
+use Rattle.scheduler.specs.Lists.{Scheduler}
+
+abbrev pub NoViable : State → ℕ → Type 0
+NoViable s e = (o : List ℕ) → Viable s e o → ⊥
+
+-- why call c may refuse e in s: it is held and barred; or it was handed in by c, is rejectable and not delayable, and has no viable order;
+-- or c winds up, settling has come to its end, and e is the lowest held event
+pub data Ground (c : Call) (s : State) (e : ℕ) : Type 0 where
+  by-bar : fateOf s e ≡ Held → barred s e ≡ true → Ground c s e
+  by-submission : c ≡ Submit e
+      → delayable (s .plan) e ≡ false
+      → rejectable (s .plan) e ≡ true
+      → NoViable s e
+      → Ground c s e
+  by-finish : c ≡ Finish → Lowest s (IsHeld s) e → ((u : State) → Turn s u → ⊥) → Ground c s e
+
+-- what call c does, write by write
+pub data Trail (c : Call) : State → State → Type 0 where
+  end : {s : State} → Trail c s s
+  held : {s t : State} (e : ℕ) → c ≡ Submit e → fateOf s e ≡ Open → Trail c (hold s e) t → Trail c s t
+  ordered : {s t : State} (e : ℕ) (o : List ℕ)
+      → fateOf s e ≡ Held
+      → First s e o
+      → Trail c (doAll s o) t
+      → Trail c s t
+  alone : {s t : State} (e : ℕ)
+      → c ≡ Submit e
+      → delayable (s .plan) e ≡ false
+      → rejectable (s .plan) e ≡ false
+      → NoViable s e
+      → Trail c (doAlone s e) t
+      → Trail c s t
+  refused : {s t : State} (e : ℕ) → Ground c s e → Trail c (settleAs Refused s e) t → Trail c s t
+  shuts : {s t : State} (k : ℕ) → c ≡ Close k → Trail c (shut s k) t → Trail c s t
+  lapsed : {s t : State} (e : ℕ)
+      → c ≡ Close (stepOf (s .plan) e)
+      → fateOf s e ≡ Open
+      → Trail c (settleAs Lapsed s e) t
+      → Trail c s t
+
+-- every call of a scheduler is such a trail
+abbrev pub Grounded : Scheduler → Type 0
+Grounded step = (s : State) (c : Call) → Sized s → Trail c s (step s c)

@@ -1,0 +1,481 @@
+-- The rules' part of the invariant, and what keeps it: doing an event that no rule forbids, and refusing an event or
+-- letting it lapse while no rule owes.
+use Prim.Native.Nat.{ℕ, _<_}
+use native.Mathlib.Omega.{arith}
+use native.Mathlib.Decide.{ℕ-discrete}
+use borrow.Author.Tests.{eq-eqb, ne-eqb, eqb-true, ltb-true, not-true, not-false}
+use mathlib.Core.Bool.{Bool, true, false, not, _&&_, _||_, and-true, and-false, or-false}
+use mathlib.Core.List.{List, [], _∷_, _++_}
+use mathlib.Core.Logic.{inl, inr}
+use mathlib.Core.Path.{_≡_, refl, sym, _∙_, ap}
+use lib.Dec.{eqb, ltb}
+use Rattle.theory.proofs.Types.{Fate, Open, Held, Done, Refused, Lapsed, Rule, Order, Need, Conditional, Plan, Entry, State}
+use Rattle.plan.specs.Base.{anyBelow}
+use Rattle.plan.specs.Plans.{eventCount, ruleCount, ruleAt, delayable}
+use Rattle.scheduler.specs.State.{fateOf, brokenAt, lines, settleAs}
+use Rattle.plan.specs.Fates.{isDone, isGone, isSettled}
+use Rattle.plan.specs.Rules.{named, bars, makesWait, forbids, owes, ready}
+use Rattle.plan.specs.Histories.{fateIf, anyDone, fatesIn, doneIn, doneInTurn}
+use Rattle.scheduler.specs.Rules.{forbidden, owing}
+use Rattle.scheduler.specs.Orders.{mayDo}
+use Rattle.scheduler.specs.Demand.{unbreakable}
+use Rattle.plan.proofs.Tests.{clash, either, or-left, or-right, or-both, and-left, and-right, and-both, and-not, any-false}
+use Rattle.plan.proofs.Lines.{doneIn-append, doneIn-cons}
+use Rattle.scheduler.proofs.Laws.{fate-settle-other, broken-settle}
+use Rattle.scheduler.proofs.Searching.{ready-unsettled}
+use Rattle.theory.proofs.SoundPlans.{Sound, rule-named}
+use Rattle.theory.proofs.HistoryInvariant.{Shape, HistoryListed, fate-then, lines-then}
+
+-- tests
+joined : (p q r : Bool) → (p && r) ≡ false → (q && r) ≡ false → ((p || q) && r) ≡ false
+joined true q r h k = h
+joined false q r h k = k
+
+both : (ea eb da db : Bool)
+    → (ea && eb) ≡ false
+    → (da && db) ≡ false
+    → ((ea && db) || (eb && da)) ≡ false
+    → ((ea || da) && (eb || db)) ≡ false
+both true true da db p q r = p
+both true false da db p q r = or-left db false r
+both false true da db p q r = rw r
+both false false da db p q r = q
+
+both-gone : (ea eb da db gc : Bool)
+    → (ea && eb) ≡ false
+    → (da && db && gc) ≡ false
+    → (gc && ((ea && db) || (eb && da))) ≡ false
+    → ((ea || da) && (eb || db) && gc) ≡ false
+both-gone ea eb da db true p q r =
+    and-true ((ea || da) && (eb || db)) ∙ both ea eb da db p (sym (and-true (da && db)) ∙ q) r
+both-gone ea eb da db false p q r = and-false ((ea || da) && (eb || db))
+
+differ : (e a b : ℕ) → eqb a b ≡ false → (eqb e a && eqb e b) ≡ false
+differ e a b n = go (eqb e a) refl
+  where
+    go : (t : Bool) → eqb e a ≡ t → (eqb e a && eqb e b) ≡ false
+    go true q = rw (q, eqb-true e a q) n
+    go false q = rw q
+
+-- b is not done last after a
+pub turn-append : (h : List Entry) (l : Entry) (a b : ℕ)
+    → doneInTurn h a b ≡ false
+    → (doneIn h a ≡ true → (eqb (l .event) b && isDone (l .fate)) ≡ false)
+    → doneInTurn (h ++ (l ∷ [])) a b ≡ false
+unfolding doneInTurn doneIn anyDone fatesIn
+turn-append [] l a b p q =
+    or-both (eqb (l .event) a && isDone (l .fate) && doneIn [] b) false
+    (and-false (eqb (l .event) a && isDone (l .fate))) refl
+turn-append (k ∷ h) l a b p q = or-both (is && doneIn (h ++ (l ∷ [])) b) (doneInTurn (h ++ (l ∷ [])) a b) (go is refl)
+    (turn-append h l a b (or-right (is && doneIn h b) (doneInTurn h a b) p) (λ d. q (doneIn-cons h k a ∙ after is d)))
+  where
+    is : Bool
+    is = eqb (k .event) a && isDone (k .fate)
+
+    after : (t : Bool) → doneIn h a ≡ true → (t || doneIn h a) ≡ true
+    after true d = refl
+    after false d = d
+
+    go : (t : Bool) → is ≡ t → (is && doneIn (h ++ (l ∷ [])) b) ≡ false
+    go false e = rw e
+    go true e =
+        rw e
+        (doneIn-append h l b
+        ∙ or-both (doneIn h b) (eqb (l .event) b && isDone (l .fate))
+        (and-not is (doneIn h b) (or-left (is && doneIn h b) (doneInTurn h a b) p) e) (q (doneIn-cons h k a ∙ rw e)))
+
+-- the history says which declared events are done
+done-settled-if : (x : Fate) → anyDone (fateIf (isSettled x) x) ≡ isDone x
+unfolding anyDone
+done-settled-if Open = refl
+done-settled-if Held = refl
+done-settled-if Done = refl
+done-settled-if Refused = refl
+done-settled-if Lapsed = refl
+
+pub done-listed : {p : Plan} {s : State}
+    → HistoryListed p s
+    → (e : ℕ)
+    → e < eventCount p
+    → doneIn (lines s) e ≡ isDone (fateOf s e)
+unfolding doneIn
+done-listed {p} {s} k e lt = rw (k .listed e lt) (done-settled-if (fateOf s e))
+
+-- a sound rule names declared events
+two-named : (n a b : ℕ) (t : Bool) → (ltb a n && ltb b n && t) ≡ true → (a < n) × (b < n)
+two-named n a b t h =
+    let q = and-left (ltb a n && ltb b n) t h in
+    (ltb-true a n (and-left (ltb a n) (ltb b n) q), ltb-true b n (and-right (ltb a n) (ltb b n) q))
+
+pub order-named : {p : Plan}
+    → Sound p
+    → (i a b : ℕ)
+    → i < ruleCount p
+    → ruleAt p i ≡ Order a b
+    → (a < eventCount p) × (b < eventCount p)
+unfolding named
+order-named {p} sd i a b l r = two-named (eventCount p) a b (not (eqb a b)) (rw r at (rule-named sd i l))
+
+pub need-named : {p : Plan}
+    → Sound p
+    → (i a b : ℕ)
+    → i < ruleCount p
+    → ruleAt p i ≡ Need a b
+    → (a < eventCount p) × (b < eventCount p)
+unfolding named
+need-named {p} sd i a b l r = two-named (eventCount p) a b (not (eqb a b)) (rw r at (rule-named sd i l))
+
+pub record ThreeNamed (p : Plan) (a b c : ℕ) : Type 0 where
+  pub first : a < eventCount p
+  pub second : b < eventCount p
+  pub third : c < eventCount p
+  pub apart : eqb a b ≡ false
+
+triple-named : {p : Plan} (a b c : ℕ) → named (eventCount p) (Conditional a b c) ≡ true → ThreeNamed p a b c
+unfolding named
+triple-named {p} a b c h =
+    let n = eventCount p in
+    let q1 = and-left (ltb a n && ltb b n && ltb c n && not (eqb a b) && not (eqb a c)) (not (eqb b c)) h in
+    let q2 = and-left (ltb a n && ltb b n && ltb c n && not (eqb a b)) (not (eqb a c)) q1 in
+    let q3 = and-left (ltb a n && ltb b n && ltb c n) (not (eqb a b)) q2 in
+    let t = two-named n a b (ltb c n) q3 in
+    record {
+      first = t .0;
+      second = t .1;
+      third = ltb-true c n (and-right (ltb a n && ltb b n) (ltb c n) q3);
+      apart = not-true (eqb a b) (and-right (ltb a n && ltb b n && ltb c n) (not (eqb a b)) q2);
+    }
+
+pub conditional-named : {p : Plan}
+    → Sound p
+    → (i a b c : ℕ)
+    → i < ruleCount p
+    → ruleAt p i ≡ Conditional a b c
+    → ThreeNamed p a b c
+conditional-named {p} sd i a b c l r = triple-named a b c (rw r at (rule-named sd i l))
+
+-- a trigger is done although what it calls for is refused or lapsed
+unfoldable pub unpaid : State → Rule → Bool
+unpaid s (Order a b) = false
+unpaid s (Need a b) = isDone (fateOf s a) && isGone (fateOf s b)
+unpaid s (Conditional a b c) = isDone (fateOf s a) && isDone (fateOf s b) && isGone (fateOf s c)
+
+-- states that agree on what is done and on what is gone owe the same, and leave the same unpaid
+module _ (s t : State) (done : (j : ℕ) → isDone (fateOf t j) ≡ isDone (fateOf s j))
+    (gone : (j : ℕ) → isGone (fateOf t j) ≡ isGone (fateOf s j)) where
+  pub owes-same : (p q : Plan) (r : Rule) → owes q (fateOf t) r ≡ owes p (fateOf s) r
+  unfolding owes
+  owes-same p q (Order a b) = refl
+  owes-same p q (Need a b) = rw (done a, done b, gone b)
+  owes-same p q (Conditional a b c) = rw (done a, done b, done c, gone c)
+
+  pub unpaid-same : (r : Rule) → unpaid t r ≡ unpaid s r
+  unfolding unpaid
+  unpaid-same (Order a b) = refl
+  unpaid-same (Need a b) = rw (done a, gone b)
+  unpaid-same (Conditional a b c) = rw (done a, done b, gone c)
+
+-- no rule that is not recorded as broken passes the test
+abbrev pub NoStanding : Plan → State → (Rule → Bool) → Type 0
+NoStanding p s t = (i : ℕ) → i < ruleCount p → brokenAt s i ≡ false → t (ruleAt p i) ≡ false
+
+-- of each rule that is not recorded as broken: an order's events are not done the other way round, nothing is unpaid
+pub record RulesObeyed (p : Plan) (s : State) : Type 0 where
+  pub turn : (i a b : ℕ)
+      → i < ruleCount p
+      → brokenAt s i ≡ false
+      → ruleAt p i ≡ Order a b
+      → doneInTurn (lines s) b a ≡ false
+  pub paid : NoStanding p s (unpaid s)
+
+-- from an admitted sheet on: an order's b that can wait is done after its a is settled, and only a rule with a trigger
+-- that cannot be refused is recorded as broken
+pub record Strict (p : Plan) (s : State) : Type 0 where
+  pub first : (i a b : ℕ)
+      → i < ruleCount p
+      → ruleAt p i ≡ Order a b
+      → delayable p b ≡ true
+      → isDone (fateOf s b) ≡ true
+      → isSettled (fateOf s a) ≡ true
+  pub weak : (i : ℕ) → i < ruleCount p → brokenAt s i ≡ true → unbreakable p (ruleAt p i) ≡ false
+
+-- no rule owes
+abbrev pub Quiet : Plan → State → Type 0
+Quiet p s = NoStanding p s (owes (s .plan) (fateOf s))
+
+-- t reads to the rules as s does: what is done and what is gone, the rules recorded as broken, and the history
+pub record SameToRules (s t : State) : Type 0 where
+  pub done : (j : ℕ) → isDone (fateOf t j) ≡ isDone (fateOf s j)
+  pub gone : (j : ℕ) → isGone (fateOf t j) ≡ isGone (fateOf s j)
+  pub recorded : (i : ℕ) → brokenAt t i ≡ brokenAt s i
+  pub same-lines : lines t ≡ lines s
+
+module _ {s t : State} (a : SameToRules s t) where
+  unbroken-same : (i : ℕ) → brokenAt t i ≡ false → brokenAt s i ≡ false
+  unbroken-same i n = sym (a .recorded i) ∙ n
+
+  pub obeyed-same : {p : Plan} → RulesObeyed p s → RulesObeyed p t
+  obeyed-same {p} w = record {
+    turn = λ i x y l n r. ap (λ h. doneInTurn h y x) (a .same-lines) ∙ w .turn i x y l (unbroken-same i n) r;
+    paid = λ i l n. unpaid-same s t (a .done) (a .gone) (ruleAt p i) ∙ w .paid i l (unbroken-same i n);
+  }
+
+  pub quiet-same : (p : Plan) → Quiet p s → Quiet p t
+  quiet-same p q i l n = owes-same s t (a .done) (a .gone) (s .plan) (t .plan) (ruleAt p i) ∙ q i l (unbroken-same i n)
+
+  pub strict-same : {p : Plan} → Strict p s → Strict p t
+  strict-same {p} w = record {
+    first = λ i x y l r d h. rw (a .done x, a .gone x) (w .first i x y l r d (sym (a .done y) ∙ h));
+    weak = λ i l n. w .weak i l (sym (a .recorded i) ∙ n);
+  }
+
+-- an order rule is never recorded as broken
+pub order-unbroken : {p : Plan} {s : State}
+    → Strict p s
+    → (i a b : ℕ)
+    → i < ruleCount p
+    → ruleAt p i ≡ Order a b
+    → brokenAt s i ≡ false
+unfolding unbreakable
+order-unbroken {p} {s} w i a b lt r = elim (either (brokenAt s i)) [
+  | inr n ↦ n
+  | inl y ↦ absurd (clash refl (rw r at (w .weak i lt y)))
+]
+
+-- tests over the rules of a state, read by its plan
+pub at-rule : {p : Plan} {s : State}
+    → Shape p s
+    → (t : Rule → Bool)
+    → anyBelow (ruleCount (s .plan)) (λ i. not (brokenAt s i) && t (ruleAt (s .plan) i)) ≡ false
+    → NoStanding p s t
+at-rule {p} {s} sh t h i lt b =
+    let z = ap ruleCount (sh .same-plan) in
+    sym (ap (λ q. t (ruleAt q i)) (sh .same-plan))
+    ∙ and-not (not (brokenAt s i)) (t (ruleAt (s .plan) i))
+    (any-false (ruleCount (s .plan)) (λ i. not (brokenAt s i) && t (ruleAt (s .plan) i)) h i (omega arith)) (rw b)
+
+pub allowed : {p : Plan} {s : State}
+    → Shape p s
+    → (e : ℕ)
+    → forbidden s e ≡ false
+    → NoStanding p s (λ r. forbids (s .plan) (fateOf s) r e)
+unfolding forbidden
+allowed {p} {s} sh e h = at-rule sh (λ r. forbids (s .plan) (fateOf s) r e) h
+
+pub quiet-of : {p : Plan} {s : State} → Shape p s → owing s ≡ false → Quiet p s
+unfolding owing
+quiet-of {p} {s} sh h = at-rule sh (owes (s .plan) (fateOf s)) h
+
+pub delayable-same : {p : Plan} {s : State} → Shape p s → (e : ℕ) → delayable (s .plan) e ≡ delayable p e
+delayable-same sh e = ap (λ q. delayable q e) (sh .same-plan)
+
+-- the fates after a settlement of an unsettled event e
+module _ {p : Plan} {s : State} (x : Fate) (e : ℕ) (fin : isSettled x ≡ true) (k : HistoryListed p s)
+    (lt : e < eventCount p) (un : isSettled (fateOf s e) ≡ false) where
+  at-e : fateOf (settleAs x s e) e ≡ x
+  at-e = fate-then x e fin k lt un
+
+  pub settled-stays : (j : ℕ) → isSettled (fateOf s j) ≡ true → isSettled (fateOf (settleAs x s e) j) ≡ true
+  settled-stays j h = elim (ℕ-discrete j e) [ yes r ↦ rw (r, at-e) fin | no ne ↦ rw (fate-settle-other x s e j ne) h ]
+
+  -- done: also e, if it is done
+  pub done-then : (j : ℕ) → isDone (fateOf (settleAs x s e) j) ≡ ((eqb e j && isDone x) || isDone (fateOf s j))
+  done-then j = elim (ℕ-discrete j e) [
+    | yes r ↦
+        rw (r, at-e, eq-eqb e e refl, or-left (isDone (fateOf s e)) (isGone (fateOf s e)) un)
+        (sym (or-false (isDone x)))
+    | no ne ↦ rw (fate-settle-other x s e j ne, ne-eqb e j (λ r. ne (sym r)))
+  ]
+
+  pub gone-then : (j : ℕ) → isGone (fateOf (settleAs x s e) j) ≡ ((eqb e j && isGone x) || isGone (fateOf s j))
+  gone-then j = elim (ℕ-discrete j e) [
+    | yes r ↦
+        rw (r, at-e, eq-eqb e e refl, or-right (isDone (fateOf s e)) (isGone (fateOf s e)) un)
+        (sym (or-false (isGone x)))
+    | no ne ↦ rw (fate-settle-other x s e j ne, ne-eqb e j (λ r. ne (sym r)))
+  ]
+
+-- doing an event that no rule bars keeps the rules obeyed, also if rules are recorded as broken at the same time
+module _ {p : Plan} {s : State} (sd : Sound p) (e : ℕ) (k : HistoryListed p s) (w : RulesObeyed p s)
+    (lt : e < eventCount p) (un : isSettled (fateOf s e) ≡ false) where
+  pub paid-do : (r : Rule)
+      → unpaid s r ≡ false
+      → bars (s .plan) (fateOf s) r e ≡ false
+      → ((a b c : ℕ) → r ≡ Conditional a b c → eqb a b ≡ false)
+      → unpaid (settleAs Done s e) r ≡ false
+  unfolding unpaid bars
+  paid-do (Order a b) u v z = refl
+  paid-do (Need a b) u v z =
+      rw (done-then Done e refl k lt un a, gone-then Done e refl k lt un b, and-true, and-false)
+      (joined (eqb e a) (isDone (fateOf s a)) (isGone (fateOf s b)) v u)
+  paid-do (Conditional a b c) u v z =
+      rw (
+        done-then Done e refl k lt un a,
+        done-then Done e refl k lt un b,
+        gone-then Done e refl k lt un c,
+        and-true (eqb e a),
+        and-true (eqb e b),
+        and-false (eqb e c),
+      )
+      (both-gone (eqb e a) (eqb e b) (isDone (fateOf s a)) (isDone (fateOf s b)) (isGone (fateOf s c))
+      (differ e a b (z a b c refl)) u v)
+
+  turn-do : (i a b : ℕ)
+      → i < ruleCount p
+      → brokenAt s i ≡ false
+      → ruleAt p i ≡ Order a b
+      → bars (s .plan) (fateOf s) (ruleAt p i) e ≡ false
+      → doneInTurn (lines (settleAs Done s e)) b a ≡ false
+  unfolding bars
+  turn-do i a b l n r v =
+      rw (lines-then Done e refl k lt un)
+      (turn-append (lines s) (record { event = e; fate = Done }) b a (w .turn i a b l n r)
+      (λ d. rw (sym (done-listed k b (order-named sd i a b l r .1)) ∙ d) at (rw r at v)))
+
+  -- in the state t, which differs from the one with e done in recorded rules alone
+  pub obeyed-done : (t : State)
+      → lines t ≡ lines (settleAs Done s e)
+      → ((r : Rule) → unpaid t r ≡ unpaid (settleAs Done s e) r)
+      → ((i : ℕ) → brokenAt t i ≡ false → brokenAt s i ≡ false)
+      → NoStanding p t (λ r. bars (s .plan) (fateOf s) r e)
+      → RulesObeyed p t
+  obeyed-done t ln un′ before free = record {
+    turn = λ i a b l n r. ap (λ h. doneInTurn h b a) ln ∙ turn-do i a b l (before i n) r (free i l n);
+    paid = λ i l n. un′ (ruleAt p i)
+        ∙ paid-do (ruleAt p i) (w .paid i l (before i n)) (free i l n)
+        (λ a b c r. conditional-named sd i a b c l r .apart);
+  }
+
+-- doing an event that no rule forbids
+module _ {p : Plan} {s : State} (sd : Sound p) (e : ℕ) (k : HistoryListed p s) (lt : e < eventCount p)
+    (m : mayDo s e ≡ true) where
+  un : isSettled (fateOf s e) ≡ false
+  un = ready-unsettled s e m
+
+  free : NoStanding p s (λ r. forbids (s .plan) (fateOf s) r e)
+  unfolding mayDo
+  free =
+      allowed (k .shape) e
+      (not-true (forbidden s e) (and-right (ready (s .plan) (fateOf s) e) (not (forbidden s e)) m))
+
+  no-bar : NoStanding p s (λ r. bars (s .plan) (fateOf s) r e)
+  unfolding forbids
+  no-bar i l b =
+      or-left (bars (s .plan) (fateOf s) (ruleAt p i) e) (makesWait (s .plan) (fateOf s) (ruleAt p i) e) (free i l b)
+
+  no-wait : NoStanding p s (λ r. makesWait (s .plan) (fateOf s) r e)
+  unfolding forbids
+  no-wait i l b =
+      or-right (bars (s .plan) (fateOf s) (ruleAt p i) e) (makesWait (s .plan) (fateOf s) (ruleAt p i) e) (free i l b)
+
+  pub obeyed-do : RulesObeyed p s → RulesObeyed p (settleAs Done s e)
+  obeyed-do w =
+      let before : (i : ℕ) → brokenAt (settleAs Done s e) i ≡ false → brokenAt s i ≡ false =
+      λ i n. sym (broken-settle Done s e i) ∙ n in
+      obeyed-done sd e k w lt un (settleAs Done s e) refl (λ r. refl) before (λ i l n. no-bar i l (before i n))
+
+  first-do : Strict p s
+      → (i a b : ℕ)
+      → i < ruleCount p
+      → ruleAt p i ≡ Order a b
+      → delayable p b ≡ true
+      → isDone (fateOf (settleAs Done s e) b) ≡ true
+      → isSettled (fateOf (settleAs Done s e) a) ≡ true
+  unfolding makesWait
+  first-do w i a b l r d h = settled-stays Done e refl k lt un a (elim (ℕ-discrete b e) [
+    | yes q ↦
+        not-false (isSettled (fateOf s a))
+        (and-not (eqb e b && delayable (s .plan) b) (not (isSettled (fateOf s a)))
+        (rw r at (no-wait i l (order-unbroken w i a b l r)))
+        (and-both (eqb e b) (delayable (s .plan) b) (eq-eqb e b (sym q)) (delayable-same (k .shape) b ∙ d)))
+    | no ne ↦ w .first i a b l r d (rw (fate-settle-other Done s e b ne) at h)
+  ])
+
+  pub strict-do : Strict p s → Strict p (settleAs Done s e)
+  strict-do w = record { first = first-do w; weak = λ i l b. w .weak i l (sym (broken-settle Done s e i) ∙ b) }
+
+unowed : (d t : Bool) → (d && not t) ≡ false → t ≡ false → d ≡ false
+unowed true t h q = absurd (clash (ap not q) h)
+unowed false t h q = refl
+
+pub owed-later : (d t t′ : Bool) → (d && not t) ≡ false → (t ≡ true → t′ ≡ true) → (d && not t′) ≡ false
+owed-later true t t′ h g = rw (g (not-false t h))
+owed-later false t t′ h g = refl
+
+guarded : (d t g : Bool) → (d && g) ≡ false → (t ≡ true → d ≡ false) → (d && (t || g)) ≡ false
+guarded true true g p q = q refl
+guarded true false g p q = p
+guarded false t g p q = refl
+
+not-gone : (x : Fate) → isGone x ≡ true → isDone x ≡ false
+not-gone Open h = refl
+not-gone Held h = refl
+not-gone Done h = sym h
+not-gone Refused h = refl
+not-gone Lapsed h = refl
+
+pub gone-settled : (x : Fate) → isGone x ≡ true → isSettled x ≡ true
+gone-settled Open h = h
+gone-settled Held h = h
+gone-settled Done h = refl
+gone-settled Refused h = refl
+gone-settled Lapsed h = refl
+
+-- refusing an event, or letting it lapse, while no rule owes
+module _ {p : Plan} {s : State} (x : Fate) (gx : isGone x ≡ true) (e : ℕ) (k : HistoryListed p s)
+    (lt : e < eventCount p) (un : isSettled (fateOf s e) ≡ false) where
+  fin : isSettled x ≡ true
+  fin = gone-settled x gx
+
+  done-same : (j : ℕ) → isDone (fateOf (settleAs x s e) j) ≡ isDone (fateOf s j)
+  done-same j = done-then x e fin k lt un j ∙ rw (not-gone x gx, and-false (eqb e j))
+
+  gone-also : (j : ℕ) → isGone (fateOf (settleAs x s e) j) ≡ (eqb e j || isGone (fateOf s j))
+  gone-also j = gone-then x e fin k lt un j ∙ rw (gx, and-true (eqb e j))
+
+  paid-drop : (r : Rule) → unpaid s r ≡ false → owes (s .plan) (fateOf s) r ≡ false → unpaid (settleAs x s e) r ≡ false
+  unfolding unpaid owes
+  paid-drop (Order a b) u v = refl
+  paid-drop (Need a b) u v =
+      rw (done-same a, gone-also b)
+      (guarded (isDone (fateOf s a)) (eqb e b) (isGone (fateOf s b)) u
+      (λ q. unowed (isDone (fateOf s a)) (isSettled (fateOf s b)) v (rw (← eqb-true e b q) un)))
+  paid-drop (Conditional a b c) u v =
+      rw (done-same a, done-same b, gone-also c)
+      (guarded (isDone (fateOf s a) && isDone (fateOf s b)) (eqb e c) (isGone (fateOf s c)) u
+      (λ q. unowed (isDone (fateOf s a) && isDone (fateOf s b)) (isSettled (fateOf s c)) v
+      (rw (← eqb-true e c q) un)))
+
+  owes-drop : (r : Rule)
+      → owes (s .plan) (fateOf s) r ≡ false
+      → owes ((settleAs x s e) .plan) (fateOf (settleAs x s e)) r ≡ false
+  unfolding owes
+  owes-drop (Order a b) v = refl
+  owes-drop (Need a b) v =
+      rw (done-same a)
+      (owed-later (isDone (fateOf s a)) (isSettled (fateOf s b)) (isSettled (fateOf (settleAs x s e) b)) v
+      (settled-stays x e fin k lt un b))
+  owes-drop (Conditional a b c) v =
+      rw (done-same a, done-same b)
+      (owed-later (isDone (fateOf s a) && isDone (fateOf s b)) (isSettled (fateOf s c))
+      (isSettled (fateOf (settleAs x s e) c)) v (settled-stays x e fin k lt un c))
+
+  unbroken : (i : ℕ) → brokenAt (settleAs x s e) i ≡ false → brokenAt s i ≡ false
+  unbroken i b = sym (broken-settle x s e i) ∙ b
+
+  pub obeyed-drop : RulesObeyed p s → Quiet p s → RulesObeyed p (settleAs x s e)
+  obeyed-drop w qt = record {
+    turn = λ i a b l n r. rw (lines-then x e fin k lt un)
+        (turn-append (lines s) (record { event = e; fate = x }) b a (w .turn i a b l (unbroken i n) r)
+        (λ d. rw (not-gone x gx) (and-false (eqb e a))));
+    paid = λ i l n. paid-drop (ruleAt p i) (w .paid i l (unbroken i n)) (qt i l (unbroken i n));
+  }
+
+  pub strict-drop : Strict p s → Strict p (settleAs x s e)
+  strict-drop w = record {
+    first = λ i a b l r d h. settled-stays x e fin k lt un a (w .first i a b l r d (sym (done-same b) ∙ h));
+    weak = λ i l b. w .weak i l (sym (broken-settle x s e i) ∙ b);
+  }
+
+  pub quiet-drop : Quiet p s → Quiet p (settleAs x s e)
+  quiet-drop qt i l n = owes-drop (ruleAt p i) (qt i l (unbroken i n))

@@ -1,0 +1,320 @@
+-- Reading a sheet gives the first state of a sound plan, or the empty state.
+use Prim.Native.Nat.{ℕ, zero, suc, _+_, _≤_, _<_}
+use native.Mathlib.Omega.{arith}
+use native.Mathlib.Decide.{ℕ-discrete}
+use borrow.Author.Tests.{ltb-true, ltb-false, lt-ltb, eqb-false, not-false}
+use mathlib.Core.Bool.{Bool, true, false, not, _&&_, _||_}
+use mathlib.Core.List.{List, [], _∷_}
+use mathlib.Core.Logic.{_≢_}
+use mathlib.Core.Option.{Option, none, some}
+use mathlib.Core.Path.{_≡_, refl, sym, _∙_, ap, subst}
+use lib.Dec.{eqb, ltb}
+use lib.ListN.{length, getD}
+use Rattle.theory.proofs.Types.{Event, Rule, Order, Need, Conditional, RuleLine, Plan, Record, State, SheetFault, Admitted, Faulty, Reading}
+use Rattle.theory.proofs.Conjunctions.{and-three}
+use Rattle.theory.proofs.SoundPlans.{Sound, rule-named, rule-enforced}
+use Rattle.plan.specs.Plans.{eventCount, ruleCount, eventAt, attributesOf, ruleAt, blankEvent, blankRule, emptyPlan}
+use Rattle.scheduler.specs.State.{firstState, emptyState}
+use Rattle.plan.specs.Rules.{badStep, badAttributes, named, enforceable, soundEvent, soundRule}
+use Rattle.plan.specs.Records.{bodyLength, newEvents, newRules, recordAt, ruleOf, addEvent, addRule, table1, addEvents, declare, isRule, recordFault}
+use Rattle.plan.specs.Sheets.{PlanReading, whole, faulty, readFrom, readPlan, ending, sheetPlan}
+use Rattle.scheduler.specs.Sheet.{admitted, readSheet}
+use Rattle.plan.proofs.Tests.{and-left, and-right, or-left, or-right}
+use Rattle.plan.proofs.Tables.{no-row}
+use Rattle.plan.proofs.Arrays.{length-store, read-same, read-other}
+
+-- a plan as far as it is read
+record Read (p : Plan) : Type 0 where
+  events-len : length (p .events) ≡ 16
+  rules-len : length (p .rules) ≡ 16
+  sound : Sound p
+
+read-empty : Read emptyPlan
+read-empty = record {
+  events-len = refl;
+  rules-len = refl;
+  sound = record {
+    few-events = omega arith;
+    few-rules = omega arith;
+    event = λ e l. absurd (omega arith);
+    rule = λ i l. absurd (omega arith);
+  };
+}
+
+abbrev isSound : Event → Bool
+isSound v = not (badStep (v .step)) && not (badAttributes (v .attributes))
+
+-- one more event
+module _ (p : Plan) (k a : ℕ) (r : Read p) (room : eventCount p < 16) where
+  new-event : eventAt (addEvent p k a) (eventCount p) ≡ record { step = k; attributes = a }
+  unfolding addEvent
+  new-event =
+      read-same 16 (p .events) (eventCount p) (record { step = k; attributes = a }) blankEvent
+      (omega (arith, r .events-len))
+
+  old-event : (e : ℕ) → e ≢ eventCount p → eventAt (addEvent p k a) e ≡ eventAt p e
+  unfolding addEvent
+  old-event e ne = read-other 16 (p .events) (eventCount p) (record { step = k; attributes = a }) blankEvent e ne
+
+  -- an event that was declared is declared still, with its attributes
+  still : (x : ℕ)
+      → ltb x (eventCount p) ≡ true
+      → (ltb x (eventCount p + 1) ≡ true) × (attributesOf (addEvent p k a) x ≡ attributesOf p x)
+  still x h =
+      let lt = ltb-true x (eventCount p) h in
+      (lt-ltb x (eventCount p + 1) (omega arith), ap (λ (v : Event). v .attributes) (old-event x (omega arith)))
+
+  pair-stays : (x y : ℕ)
+      → (ltb x (eventCount p) && ltb y (eventCount p) && not (eqb x y)) ≡ true
+      → ((ltb x (eventCount p + 1) && ltb y (eventCount p + 1) && not (eqb x y)) ≡ true)
+      × (attributesOf (addEvent p k a) x ≡ attributesOf p x)
+      × (attributesOf (addEvent p k a) y ≡ attributesOf p y)
+  pair-stays x y n =
+      let q = and-three (ltb x (eventCount p)) (ltb y (eventCount p)) (not (eqb x y)) n in
+      let sx = still x (q .0) in
+      let sy = still y (q .1) in
+      (rw (sx .0, sy .0, q .2), sx .1, sy .1)
+
+  rule-stays : (u : Rule)
+      → named (eventCount p) u ≡ true
+      → enforceable p u ≡ true
+      → (named (eventCount (addEvent p k a)) u && enforceable (addEvent p k a) u) ≡ true
+  unfolding named enforceable addEvent
+  rule-stays (Order x y) n e = let q = pair-stays x y n in rw (q .0, q .1, q .2) e
+  rule-stays (Need x y) n e = let q = pair-stays x y n in rw (q .0, q .1, q .2) e
+  rule-stays (Conditional x y z) n e =
+      let m = eventCount p in
+      let q = and-three (ltb x m && ltb y m && ltb z m && not (eqb x y)) (not (eqb x z)) (not (eqb y z)) n in
+      let v = and-three (ltb x m && ltb y m) (ltb z m) (not (eqb x y)) (q .0) in
+      let sx = still x (and-left (ltb x m) (ltb y m) (v .0)) in
+      let sy = still y (and-right (ltb x m) (ltb y m) (v .0)) in
+      let sz = still z (v .1) in
+      rw (sx .0, sy .0, sz .0, v .2, q .1, q .2, sx .1, sy .1, sz .1) e
+
+  event-sound : badStep k ≡ false
+      → badAttributes a ≡ false
+      → (e : ℕ)
+      → e < eventCount p + 1
+      → soundEvent (addEvent p k a) e ≡ true
+  unfolding soundEvent
+  event-sound hk ha e l = elim (ℕ-discrete e (eventCount p)) [
+    | yes q ↦ rw q (ap isSound new-event ∙ rw (hk, ha))
+    | no ne ↦ ap isSound (old-event e ne) ∙ r .sound .event e (omega arith)
+  ]
+
+  read-event : badStep k ≡ false → badAttributes a ≡ false → Read (addEvent p k a)
+  unfolding addEvent soundRule
+  read-event hk ha = record {
+    events-len = length-store 16 (p .events) (eventCount p) _ ∙ r .events-len;
+    rules-len = r .rules-len;
+    sound = record {
+      few-events = omega arith;
+      few-rules = r .sound .few-rules;
+      event = event-sound hk ha;
+      rule = λ i l. rule-stays (ruleAt p i) (rule-named (r .sound) i l) (rule-enforced (r .sound) i l);
+    };
+  }
+
+-- one more rule
+module _ (p : Plan) (u : Rule) (r : Read p) (room : ruleCount p < 16) (n : named (eventCount p) u ≡ true)
+    (e : enforceable p u ≡ true) where
+  new-rule : ruleAt (addRule p u) (ruleCount p) ≡ u
+  unfolding addRule
+  new-rule =
+      ap (λ (v : RuleLine). v .rule)
+      (read-same 16 (p .rules) (ruleCount p) (record { rule = u }) blankRule (omega (arith, r .rules-len)))
+
+  old-rule : (i : ℕ) → i ≢ ruleCount p → ruleAt (addRule p u) i ≡ ruleAt p i
+  unfolding addRule
+  old-rule i ne =
+      ap (λ (v : RuleLine). v .rule) (read-other 16 (p .rules) (ruleCount p) (record { rule = u }) blankRule i ne)
+
+  -- a rule names and asks what it did
+  same-tests : (v : Rule)
+      → (named (eventCount (addRule p u)) v && enforceable (addRule p u) v)
+      ≡ (named (eventCount p) v && enforceable p v)
+  unfolding named enforceable addRule
+  same-tests (Order x y) = refl
+  same-tests (Need x y) = refl
+  same-tests (Conditional x y z) = refl
+
+  rule-sound : (i : ℕ) → i < ruleCount p + 1 → soundRule (addRule p u) i ≡ true
+  unfolding soundRule
+  rule-sound i l = elim (ℕ-discrete i (ruleCount p)) [
+    | yes q ↦ rw (q, new-rule, same-tests u, n, e)
+    | no ne ↦ rw (old-rule i ne, same-tests (ruleAt p i)) (r .sound .rule i (omega arith))
+  ]
+
+  read-rule : Read (addRule p u)
+  unfolding addRule soundEvent
+  read-rule = record {
+    events-len = r .events-len;
+    rules-len = length-store 16 (p .rules) (ruleCount p) _ ∙ r .rules-len;
+    sound = record {
+      few-events = r .sound .few-events;
+      few-rules = omega arith;
+      event = r .sound .event;
+      rule = rule-sound;
+    };
+  }
+
+-- the events of kind 6
+read-events : (p : Plan) (k : ℕ) (l : List ℕ)
+    → Read p
+    → eventCount p + length l ≤ 16
+    → badStep k ≡ false
+    → ((i : ℕ) → badAttributes (getD l i 0) ≡ false)
+    → Read (addEvents p k l)
+unfolding addEvents
+read-events p k [] r room hk h = r
+read-events p k (a ∷ l) r room hk h =
+    read-events (addEvent p k a) k l (read-event p k a r (omega arith) hk (h 0)) (unfold addEvent in omega arith) hk
+    (λ i. h (suc i))
+
+table-sound : (i : ℕ) → badAttributes (getD table1 i 0) ≡ false
+table-sound zero = refl
+table-sound (suc zero) = refl
+table-sound (suc (suc zero)) = refl
+table-sound (suc (suc (suc zero))) = refl
+table-sound (suc (suc (suc (suc i)))) = refl
+
+-- a record to which no row applies
+record Clean (p : Plan) (v : Record) : Type 0 where
+  low : v .kind ≢ 0
+  high : v .kind ≤ 6
+  events : eventCount p + newEvents (v .kind) ≤ 16
+  rules : ruleCount p + newRules (v .kind) ≤ 16
+  step : ((eqb (v .kind) 1 || eqb (v .kind) 6) && badStep (v .x)) ≡ false
+  attributes : (eqb (v .kind) 1 && badAttributes (v .y)) ≡ false
+  names : (isRule (v .kind) && not (named (eventCount p) (ruleOf v))) ≡ false
+  enforced : (isRule (v .kind) && not (enforceable p (ruleOf v))) ≡ false
+
+record-clean : (p : Plan) (len at : ℕ) (v : Record) → recordFault p len at v ≡ none → Clean p v
+unfolding recordFault
+record-clean p len at v h =
+    let k = v .kind in
+    let q = no-row _ h .1 in
+    let full = q .1 .1 .0 in
+    let rest = q .1 .1 .1 in
+    record {
+      low = eqb-false k 0 (or-left (eqb k 0) (ltb 6 k) (q .0));
+      high = ltb-false 6 k (or-right (eqb k 0) (ltb 6 k) (q .0));
+      events = ltb-false 16 (eventCount p + newEvents k)
+          (or-left (ltb 16 (eventCount p + newEvents k)) (ltb 16 (ruleCount p + newRules k)) full);
+      rules = ltb-false 16 (ruleCount p + newRules k)
+          (or-right (ltb 16 (eventCount p + newEvents k)) (ltb 16 (ruleCount p + newRules k)) full);
+      step = rest .0;
+      attributes = rest .1 .0;
+      names = rest .1 .1 .0;
+      enforced = rest .1 .1 .1 .0;
+    }
+
+-- what it declares, kind by kind
+module _ (p : Plan) (r : Read p) where
+  read-rule-record : (v : Record) → Clean p v → isRule (v .kind) ≡ true → ruleCount p < 16 → Read (addRule p (ruleOf v))
+  read-rule-record v c is room =
+      read-rule p (ruleOf v) r room (not-false _ (rw is at (c .names))) (not-false _ (rw is at (c .enforced)))
+
+  by-kind : (k x y z : ℕ)
+      → Clean p (record { kind = k; x = x; y = y; z = z })
+      → k ≢ 5
+      → Read (declare p (record { kind = k; x = x; y = y; z = z }))
+  unfolding declare
+  by-kind zero x y z c five = absurd (omega arith)
+  by-kind (suc zero) x y z c five = read-event p x y r (omega arith) (c .step) (c .attributes)
+  by-kind (suc (suc zero)) x y z c five = read-rule-record _ c refl (omega arith)
+  by-kind (suc (suc (suc zero))) x y z c five = read-rule-record _ c refl (omega arith)
+  by-kind (suc (suc (suc (suc zero)))) x y z c five = read-rule-record _ c refl (omega arith)
+  by-kind (suc (suc (suc (suc (suc zero))))) x y z c five = absurd (omega arith)
+  by-kind (suc (suc (suc (suc (suc (suc zero)))))) x y z c five =
+      read-events p x table1 r (omega arith) (c .step) table-sound
+  by-kind (suc (suc (suc (suc (suc (suc (suc k))))))) x y z c five = absurd (omega arith)
+
+  read-declared : (v : Record) → Clean p v → v .kind ≢ 5 → Read (declare p v)
+  read-declared v c five = by-kind (v .kind) (v .x) (v .y) (v .z) c five
+
+faulty-whole : {f : SheetFault} {at end : ℕ} {p : Plan} → faulty f at ≡ whole p end → ⊥
+faulty-whole {f} {at} {end} {p} h = let z : _≡_ {A = ℕ} 0 1 = cc in omega arith
+
+same-plan : {p q : Plan} {at end : ℕ} → whole p at ≡ whole q end → p ≡ q
+same-plan {p} {q} {at} {end} e = cc
+
+-- so is every plan on the way
+read-from : (n : ℕ) (b : List ℕ) (at : ℕ) (p q : Plan) (end : ℕ) → Read p → readFrom n b at p ≡ whole q end → Read q
+unfolding readFrom
+read-from zero b at p q end r h = absurd (faulty-whole h)
+read-from (suc n) b at p q end r h = go (recordFault p (length b) at v) refl (eqb (v .kind) 5) refl (read-from n b)
+  where
+    v : Record
+    v = recordAt b at
+
+    go : (o : Option SheetFault)
+        → recordFault p (length b) at v ≡ o
+        → (t : Bool)
+        → eqb (v .kind) 5 ≡ t
+        → ((at : ℕ) (p q : Plan) (end : ℕ) → Read p → readFrom n b at p ≡ whole q end → Read q)
+        → Read q
+    go (some f) o t u rec = absurd (faulty-whole (rw (o, readFrom) at h))
+    go none o true u rec = subst Read (same-plan (rw (o, u, readFrom) at h)) r
+    go none o false u rec =
+        let c = record-clean p (length b) at v o in
+        rec (at + 1 + bodyLength (v .kind)) (declare p v) q end (read-declared p r v c (eqb-false (v .kind) 5 u))
+        (rw (o, u, readFrom) at h)
+
+-- a sheet's plan is the one that its records give
+ending-whole : (b : List ℕ) (r : PlanReading) (p : Plan) (end : ℕ)
+    → ending b r ≡ whole p end
+    → (at : ℕ) × (r ≡ whole p at)
+unfolding ending
+ending-whole b (faulty f at) p end h = absurd (faulty-whole h)
+ending-whole b (whole q at) p end h = go (ltb at (length b)) refl
+  where
+    go : (t : Bool) → ltb at (length b) ≡ t → (at′ : ℕ) × (whole q at ≡ whole p at′)
+    go true t = absurd (faulty-whole (rw (t, ending) at h))
+    go false t = (end, rw (t, ending) at h)
+
+refused-admitted : {f : SheetFault} {at : ℕ} → Faulty f at ≡ Admitted → ⊥
+refused-admitted {f} {at} h = let z : _≡_ {A = ℕ} 0 1 = cc in omega arith
+
+-- an admitted sheet's plan, and its state
+record Declared (b : List ℕ) (s : State) : Type 0 where
+  plan : Plan
+  end : ℕ
+  reads : readPlan b ≡ whole plan end
+  first : s ≡ firstState plan
+
+sheet-plan : (b : List ℕ) (s : State) → readSheet b ≡ admitted s → Declared b s
+unfolding readSheet sheetPlan
+sheet-plan b s h = go (sheetPlan b) refl
+  where
+    go : (o : PlanReading) → sheetPlan b ≡ o → Declared b s
+    go (whole p at) q =
+        let e = ending-whole b (readPlan b) p at q in
+        record {
+          plan = p;
+          end = e .0;
+          reads = e .1;
+          first = sym (ap (λ (r : Reading). r .state) (rw (q, readSheet) at h));
+        }
+    go (faulty f at) q = absurd (refused-admitted (ap (λ (r : Reading). r .verdict) (rw (q, readSheet) at h)))
+
+pub sheet-first : (b : List ℕ) (s : State) → readSheet b ≡ admitted s → s ≡ firstState (s .plan)
+sheet-first b s h = let e = sheet-plan b s h .first in e ∙ ap (λ (t : State). firstState (t .plan)) (sym e)
+
+pub sheet-sound : (b : List ℕ) (s : State) → readSheet b ≡ admitted s → Sound (s .plan)
+unfolding readPlan
+sheet-sound b s h =
+    let q = sheet-plan b s h in
+    let r = read-from (length b + 1) b 0 emptyPlan (q .plan) (q .end) read-empty (q .reads) in
+    subst (λ (t : State). Sound (t .plan)) (sym (q .first)) (r .sound)
+
+-- a sheet turned down
+pub sheet-refused : (b : List ℕ) (f : SheetFault) (at : ℕ)
+    → readSheet b .verdict ≡ Faulty f at
+    → readSheet b .state ≡ emptyState
+unfolding readSheet
+sheet-refused b f at h = go (sheetPlan b) refl
+  where
+    go : (o : PlanReading) → sheetPlan b ≡ o → readSheet b .state ≡ emptyState
+    go (whole p end) q = absurd (refused-admitted (sym (rw (q, readSheet) at h)))
+    go (faulty f at) q = rw (q, readSheet)
