@@ -1,2 +1,3 @@
+-- The loop over a list, and what its run promises.
 pub mod Running
 pub mod Promises

@@ -1,4 +1,5 @@
--- The run of a list on a sheet: what it comes to, demand 3 of it, and that no list of calls with byte numbers is left out.
+-- The run of a list on a sheet: what it comes to, demand 3 of it, and that no list of calls with byte numbers is left
+-- out.
 use Prim.Native.Nat.{ℕ}
 use native.Mathlib.Omega.{arith}
 use mathlib.Core.Bool.{true, false}
@@ -38,7 +39,9 @@ module _ (sheet calls : List ℕ) (r : Reading) (e : r ≡ readSheet sheet) wher
   not-ran f at h = sym (on-refused r (decode calls) f at h) ∙ ap (λ t. runOn t (decode calls)) e
 
 -- the run on an admitted sheet
-run-state : (sheet calls : List ℕ) (s : State) → readSheet sheet ≡ admitted s → runOf sheet calls ≡ ranOn s (decode calls)
+run-state : (sheet calls : List ℕ) (s : State)
+    → readSheet sheet ≡ admitted s
+    → runOf sheet calls ≡ ranOn s (decode calls)
 unfolding runOf
 run-state sheet calls s h = ap (λ t. runOn t (decode calls)) h ∙ on-admitted (admitted s) (decode calls) refl
 

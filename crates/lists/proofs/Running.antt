@@ -2,7 +2,7 @@
 use Prim.Native.Nat.{ℕ, suc, _+_, _-_, _≤_, _<_}
 use native.Mathlib.Omega.{arith}
 use mathlib.Core.Bool.{Bool, true, false, cond}
-use mathlib.Core.List.{List, [], _∷_}
+use mathlib.Core.List.{List, []}
 use mathlib.Core.Path.{_≡_, refl, sym, _∙_, ap}
 use lib.ListN.{length, drop, length-drop}
 use lib.Seq.{drop-drop}
@@ -19,10 +19,12 @@ use Rattle.lists.specs.Internal.Progress.{stopped, afterReply, takeCall,
 
 -- the branches of `afterReply`
 module _ (r : Reply) (at n : ℕ) where
-  pub reply-refused : isTurnedDown (r .answer) ≡ true → record { state = r .state; at = at; refused = n + 1; going = true } ≡ afterReply r at n
+  pub reply-refused : isTurnedDown (r .answer) ≡ true
+      → record { state = r .state; at = at; refused = n + 1; going = true } ≡ afterReply r at n
   reply-refused h = rw h
 
-  pub reply-taken : isTurnedDown (r .answer) ≡ false → record { state = r .state; at = at; refused = n; going = true } ≡ afterReply r at n
+  pub reply-taken : isTurnedDown (r .answer) ≡ false
+      → record { state = r .state; at = at; refused = n; going = true } ≡ afterReply r at n
   reply-taken h = rw h (ap (λ (k : ℕ). record { state = r .state; at = at; refused = k; going = true }) (omega arith))
 
 -- the branches of `takeCall`, by what code reads
@@ -78,11 +80,13 @@ from-call s n c d =
     (omega arith)
 
 -- the end, and a bad record
-from-end : (s : State) (n : ℕ) → record { verdict = Admitted; state = s; refused = n } ≡ outcomeFrom s n (record { calls = []; cut = false })
+from-end : (s : State) (n : ℕ)
+    → record { verdict = Admitted; state = s; refused = n } ≡ outcomeFrom s n (record { calls = []; cut = false })
 unfolding after turnedDown
 from-end s n = ap {B = Outcome} (λ (k : ℕ). record { verdict = Admitted; state = s; refused = k }) (omega arith)
 
-from-bad : (s : State) (n : ℕ) → record { verdict = Admitted; state = s; refused = n + 1 } ≡ outcomeFrom s n (record { calls = []; cut = true })
+from-bad : (s : State) (n : ℕ)
+    → record { verdict = Admitted; state = s; refused = n + 1 } ≡ outcomeFrom s n (record { calls = []; cut = true })
 unfolding after turnedDown
 from-bad s n = ap {B = Outcome} (λ (k : ℕ). record { verdict = Admitted; state = s; refused = k }) (omega arith)
 
@@ -113,7 +117,9 @@ module _ (s : State) (b : List ℕ) (p : Progress) (u : Underway s b p) (g : p .
   here = firstCall (drop (p .at) b)
 
   going-rest : outcomeFrom (p .state) (p .refused) (decode (drop (p .at) b)) ≡ ranOn s (decode b)
-  going-rest = sym (ap (λ (t : Bool). cond t (outcomeFrom (p .state) (p .refused) (decode (drop (p .at) b))) (outcomeOf p)) g) ∙ u .same
+  going-rest =
+      sym (ap (λ (t : Bool). cond t (outcomeFrom (p .state) (p .refused) (decode (drop (p .at) b))) (outcomeOf p)) g)
+      ∙ u .same
 
   now-left : leftOf b p ≡ suc (length b - p .at)
   now-left = ap (λ (t : Bool). cond t (suc (length b - p .at)) 0) g
@@ -200,6 +206,9 @@ module _ (s : State) (b : List ℕ) (p : Progress) (u : Underway s b p) (g : p .
         go Bad h = rw (e, h) less-bad
 
 -- the list has stopped
-pub ended : (s : State) (b : List ℕ) (p : Progress) → Underway s b p → p .going ≡ false → outcomeOf p ≡ ranOn s (decode b)
+pub ended : (s : State) (b : List ℕ) (p : Progress)
+    → Underway s b p
+    → p .going ≡ false
+    → outcomeOf p ≡ ranOn s (decode b)
 ended s b p u g =
     sym (ap (λ (t : Bool). cond t (outcomeFrom (p .state) (p .refused) (decode (drop (p .at) b))) (outcomeOf p)) g) ∙ u .same

@@ -9,7 +9,8 @@ ghost use Prim.Native.Nat.{_+_, _<_};
 ghost use Rattle.plan.specs.Faults.{isTurnedDown};
 ghost use Rattle.lists.specs.Internal.Progress.{stopped, afterReply, takeCall, Room};
 
-// The state after the calls so far, the offset of the next record, how many calls were turned down, and whether the list goes on.
+// The state after the calls so far, the offset of the next record, how many calls were turned down, and whether the
+// list goes on.
 pub(crate) struct Progress {
     pub state: State,
     pub at: usize,
@@ -17,7 +18,8 @@ pub(crate) struct Progress {
     pub going: bool,
 }
 
-// The list after what stands at its offset: a call is made, the end stops it, and a bad record counts as one call turned down.
+// The list after what stands at its offset: a call is made, the end stops it, and a bad record counts as one call
+// turned down.
 pub(crate) fn take_call(progress: Progress, read: CallRead) -> Progress
     requires { ⌜ Room progress read ⌝ }
     ensures { λ r. ⌜ r ≡ takeCall progress read ⌝ }
@@ -52,19 +54,20 @@ fn after_reply(reply: Reply, at: usize, refused: usize) -> Progress
 {
     let answer = reply.answer;
     let state = reply.state;
+    let going = true;
     if is_turned_down(answer) {
         return Progress {
             state,
             at,
             refused: refused + 1,
-            going: true,
+            going,
         };
     }
     Progress {
         state,
         at,
         refused,
-        going: true,
+        going,
     }
 }
 

@@ -14,8 +14,8 @@ ghost use Rattle.scheduler.specs.Lists.{scheduler};
 ghost use Rattle.scheduler.specs.Runner.{ranOn, runOf};
 ghost use Rattle.scheduler.specs.Demand.{Demand3, seen};
 
-// A cut record or another kind ends the list and counts as one call turned down; on a sheet turned down no call is made. Demand 3 holds
-// of every admitted sheet and every list.
+// A cut record or another kind ends the list and counts as one call turned down; on a sheet turned down no call is
+// made. Demand 3 holds of every admitted sheet and every list.
 pub fn run(sheet: &[u8], calls: &[u8]) -> Outcome
     ensures result { λ r. ⌜ r ≡ runOf (now (sheet .entry)) (now (calls .entry)) ⌝ }
     ensures demand3 { λ r. ⌜ ((s : State) → readSheet (now (sheet .entry)) ≡ admitted s → Demand3 (s .plan) (seen scheduler s (decode (now (calls .entry)) .calls)) (r .state)) ⌝ }

@@ -1,5 +1,5 @@
 -- Decoding call records: any budget that passes the bytes does, and a record is taken from the front.
-use Prim.Native.Nat.{ℕ, zero, suc, _-_, _≤_}
+use Prim.Native.Nat.{ℕ, zero, suc, _≤_}
 use native.Mathlib.Omega.{arith}
 use mathlib.Core.Bool.{Bool, true, false}
 use mathlib.Core.List.{List, [], _∷_}
@@ -7,7 +7,7 @@ use mathlib.Core.Path.{_≡_, refl, sym, _∙_, ap}
 use lib.Dec.{eqb}
 use lib.ListN.{length, drop, length-drop}
 use Rattle.plan.specs.Prelude.{Call, Submit, Close, Finish, CallRead, Listed, End, Bad}
-use Rattle.plan.specs.Calls.{callSize, callOf, firstCall, Decoded, andThen, decodeUpTo, decode}
+use Rattle.plan.specs.Calls.{callSize, firstCall, andThen, decodeUpTo, decode}
 use Rattle.plan.proofs.CallRecords.{decode-listed, decode-end, decode-bad}
 
 -- a record takes one or two bytes, and they are there

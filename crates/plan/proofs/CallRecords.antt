@@ -3,7 +3,7 @@ use Prim.Native.Nat.{ℕ, zero, suc, _+_, _-_, _≤_, _<_}
 use native.Mathlib.Numerals.{add-one}
 use native.Mathlib.Omega.{arith}
 use mathlib.Core.Bool.{Bool, true, false, _&&_}
-use mathlib.Core.List.{List, [], _∷_, _++_}
+use mathlib.Core.List.{List, [], _∷_}
 use mathlib.Core.Path.{_≡_, refl, sym, _∙_, ap}
 use borrow.Author.Tests.{ne-eqb}
 use lib.Dec.{ltb}
@@ -11,7 +11,7 @@ use lib.ListN.{length, getD, drop, drop-of-length-le}
 use lib.Seq.{drop-cons}
 use lib.Pow.{areBytes}
 use Rattle.plan.specs.Prelude.{Call, Submit, Close, Finish, CallRead, Listed, End, Bad}
-use Rattle.plan.specs.Calls.{callBytes, callSize, callOf, firstCall, Decoded, andThen, decodeUpTo, decode, encode}
+use Rattle.plan.specs.Calls.{callSize, callOf, firstCall, andThen, decodeUpTo, decode, encode}
 
 -- a record by its kind k, with the byte x after it
 module _ (k x : ℕ) where
@@ -49,7 +49,9 @@ module _ (b : List ℕ) (at : ℕ) where
 
 -- the branches of the decoding
 module _ (n : ℕ) (b : List ℕ) where
-  pub decode-listed : (c : Call) → firstCall b ≡ Listed c → decodeUpTo (suc n) b ≡ andThen c (decodeUpTo n (drop (callSize c) b))
+  pub decode-listed : (c : Call)
+      → firstCall b ≡ Listed c
+      → decodeUpTo (suc n) b ≡ andThen c (decodeUpTo n (drop (callSize c) b))
   unfolding decodeUpTo
   decode-listed c h = rw (h, decodeUpTo)
 
@@ -75,7 +77,9 @@ finish-first [] = refl
 finish-first (x ∷ b) = refl
 
 -- with a budget of as many records as calls, or more
-read-back : (n : ℕ) (cs : List Call) → length (encode cs) ≤ n → decodeUpTo n (encode cs) ≡ record { calls = cs; cut = false }
+read-back : (n : ℕ) (cs : List Call)
+    → length (encode cs) ≤ n
+    → decodeUpTo n (encode cs) ≡ record { calls = cs; cut = false }
 unfolding decodeUpTo encode firstCall
 read-back zero [] h = refl
 read-back (suc n) [] h = refl
@@ -84,7 +88,9 @@ read-back zero (Close k ∷ cs) h = absurd (omega arith)
 read-back zero (Finish ∷ cs) h = absurd (omega arith)
 read-back (suc n) (Submit e ∷ cs) h = ap (andThen (Submit e)) (read-back n cs (omega arith))
 read-back (suc n) (Close k ∷ cs) h = ap (andThen (Close k)) (read-back n cs (omega arith))
-read-back (suc n) (Finish ∷ cs) h = decode-listed n (18 ∷ encode cs) Finish (finish-first (encode cs)) ∙ ap (andThen Finish) (read-back n cs (omega arith))
+read-back (suc n) (Finish ∷ cs) h =
+    decode-listed n (18 ∷ encode cs) Finish (finish-first (encode cs))
+    ∙ ap (andThen Finish) (read-back n cs (omega arith))
 
 pub decode-encode : (cs : List Call) → decode (encode cs) ≡ record { calls = cs; cut = false }
 unfolding decode
@@ -99,5 +105,7 @@ encode-bytes (Close k ∷ cs) = ap (λ t. ltb k 256 && t) (encode-bytes cs)
 encode-bytes (Finish ∷ cs) = encode-bytes cs
 
 -- the bytes that list these calls
-pub decoded : (cs : List Call) → byteNumbers cs ≡ true → (b : List ℕ) × (areBytes b ≡ true) × (decode b ≡ record { calls = cs; cut = false })
+pub decoded : (cs : List Call)
+    → byteNumbers cs ≡ true
+    → (b : List ℕ) × (areBytes b ≡ true) × (decode b ≡ record { calls = cs; cut = false })
 decoded cs h = (encode cs, encode-bytes cs ∙ h, decode-encode cs)

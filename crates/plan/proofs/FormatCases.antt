@@ -53,7 +53,8 @@ sheets =
     -- 2: kind 0 and above 6, also as the last byte
     ∷ (0 ∷ 5 ∷ [], rejected 2 0)
     ∷ (6 ∷ 0 ∷ 7 ∷ [], rejected 2 2)
-    -- 3: the 17th event, by kinds 1 and 6, and the 17th rule; before its step or names are looked at, not where it is cut
+    -- 3: the 17th event, by kinds 1 and 6, and the 17th rule; before its step or names are looked at, not where it is
+    -- cut
     ∷ (sixteenEvents ++ (5 ∷ []), declaring 16 0 9)
     ∷ (sixteenEvents ++ (1 ∷ 9 ∷ 9 ∷ []), rejected 3 8)
     ∷ (sixteenEvents ++ (1 ∷ 9 ∷ []), rejected 1 8)

@@ -1,3 +1,4 @@
+-- Lemmas over the definitions of `plan`, lowest first; the rows by computation last.
 pub mod Tests
 pub mod Arrays
 pub mod ByteReads

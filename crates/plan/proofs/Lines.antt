@@ -16,7 +16,8 @@ use Rattle.plan.specs.Histories.{blankEntry, fateIf, fatesIn, anyDone, d
 use Rattle.plan.proofs.Tests.{clash, and-left, and-right}
 
 -- one more line at the end, and one at the front
-pub fates-append : (h : List Entry) (l : Entry) (e : ℕ) → fatesIn (h ++ (l ∷ [])) e ≡ fatesIn h e ++ fateIf (eqb (l .event) e) (l .fate)
+pub fates-append : (h : List Entry) (l : Entry) (e : ℕ)
+    → fatesIn (h ++ (l ∷ [])) e ≡ fatesIn h e ++ fateIf (eqb (l .event) e) (l .fate)
 unfolding fatesIn
 fates-append [] l e = append-nil (fateIf (eqb (l .event) e) (l .fate))
 fates-append (k ∷ h) l e = rw (fates-append h l e, append-assoc)
@@ -31,11 +32,13 @@ unfolding anyDone
 done-if true x = or-false (isDone x)
 done-if false x = refl
 
-pub doneIn-append : (h : List Entry) (l : Entry) (e : ℕ) → doneIn (h ++ (l ∷ [])) e ≡ (doneIn h e || (eqb (l .event) e && isDone (l .fate)))
+pub doneIn-append : (h : List Entry) (l : Entry) (e : ℕ)
+    → doneIn (h ++ (l ∷ [])) e ≡ (doneIn h e || (eqb (l .event) e && isDone (l .fate)))
 unfolding doneIn
 doneIn-append h l e = rw (fates-append h l e, done-append, done-if)
 
-pub doneIn-cons : (h : List Entry) (k : Entry) (e : ℕ) → doneIn (k ∷ h) e ≡ ((eqb (k .event) e && isDone (k .fate)) || doneIn h e)
+pub doneIn-cons : (h : List Entry) (k : Entry) (e : ℕ)
+    → doneIn (k ∷ h) e ≡ ((eqb (k .event) e && isDone (k .fate)) || doneIn h e)
 unfolding doneIn fatesIn
 doneIn-cons h k e = rw (done-append, done-if)
 
@@ -48,7 +51,8 @@ module _ (h : List Entry) (len i : ℕ) (whole : length h ≡ 16) where
   ]
 
   pub rest-cons : i < min len 16 → drop i (take len h) ≡ getD h i blankEntry ∷ drop (i + 1) (take len h)
-  rest-cons lt = rw (add-one, drop-cons (take len h) i blankEntry (rw length-lines lt), getD-take len h i blankEntry (omega arith))
+  rest-cons lt =
+      rw (add-one, drop-cons (take len h) i blankEntry (rw length-lines lt), getD-take len h i blankEntry (omega arith))
 
   pub rest-none : min len 16 ≤ i → drop i (take len h) ≡ []
   rest-none le = drop-of-length-le (take len h) {i = i} (rw length-lines le)
@@ -62,13 +66,18 @@ module _ (ls rest : List Entry) (l : Entry) (first : ls ≡ l ∷ rest) where
   done-later e t = rw (first, doneIn-cons rest l e, t)
 
   -- a has been done before these lines (seen) or is done in them, and b is done after it
-  pub turn-here : (seen : Bool) (a b : ℕ) → (seen && eqb (l .event) b && isDone (l .fate)) ≡ true → ((seen && doneIn ls b) || doneInTurn ls a b) ≡ true
+  pub turn-here : (seen : Bool) (a b : ℕ)
+      → (seen && eqb (l .event) b && isDone (l .fate)) ≡ true
+      → ((seen && doneIn ls b) || doneInTurn ls a b) ≡ true
   turn-here true a b t = rw (done-here b t)
   turn-here false a b t = absurd (clash t refl)
 
-  pub turn-later : (seen : Bool) (a b : ℕ) → (seen && eqb (l .event) b && isDone (l .fate)) ≡ false → ((seen && doneIn ls b) || doneInTurn ls a b) ≡ (((seen || (eqb (l .event) a && isDone (l .fate))) && doneIn rest b) || doneInTurn rest a b)
+  pub turn-later : (seen : Bool) (a b : ℕ)
+      → (seen && eqb (l .event) b && isDone (l .fate)) ≡ false
+      → ((seen && doneIn ls b) || doneInTurn ls a b) ≡ (((seen || (eqb (l .event) a && isDone (l .fate))) && doneIn rest b) || doneInTurn rest a b)
   unfolding doneInTurn
-  turn-later true a b t = rw (done-later b t, first) (joined (doneIn rest b) (eqb (l .event) a && isDone (l .fate)) (doneInTurn rest a b))
+  turn-later true a b t =
+      rw (done-later b t, first) (joined (doneIn rest b) (eqb (l .event) a && isDone (l .fate)) (doneInTurn rest a b))
     where
       joined : (d s r : Bool) → (d || (s && d || r)) ≡ (d || r)
       joined true s r = refl
@@ -85,19 +94,28 @@ module _ (ls rest : List Entry) (l : Entry) (first : ls ≡ l ∷ rest) where
   declared-later n lt = rw (first, lt-ltb (l .event) n lt)
 
   -- the line names e, and e's fate x is not due, or it is another fate
-  pub listed-not : (e : ℕ) (x : Fate) (due : Bool) → (eqb (l .event) e && not (due && sameFate (l .fate) x)) ≡ true → sameFates (fatesIn ls e) (fateIf due x) ≡ false
+  pub listed-not : (e : ℕ) (x : Fate) (due : Bool)
+      → (eqb (l .event) e && not (due && sameFate (l .fate) x)) ≡ true
+      → sameFates (fatesIn ls e) (fateIf due x) ≡ false
   unfolding fatesIn sameFates
-  listed-not e x due t = rw (first, and-left (eqb (l .event) e) (not (due && sameFate (l .fate) x)) t) (go due (not-true _ (and-right (eqb (l .event) e) (not (due && sameFate (l .fate) x)) t)))
+  listed-not e x due t =
+      rw (first, and-left (eqb (l .event) e) (not (due && sameFate (l .fate) x)) t) (go due (not-true _ (and-right (eqb (l .event) e) (not (due && sameFate (l .fate) x)) t)))
     where
-      go : (due : Bool) → (due && sameFate (l .fate) x) ≡ false → sameFates (l .fate ∷ fatesIn rest e) (fateIf due x) ≡ false
+      go : (due : Bool)
+          → (due && sameFate (l .fate) x) ≡ false
+          → sameFates (l .fate ∷ fatesIn rest e) (fateIf due x) ≡ false
       go true n = rw n
       go false n = refl
 
-  pub listed-later : (e : ℕ) (x : Fate) (due : Bool) → (eqb (l .event) e && not (due && sameFate (l .fate) x)) ≡ false → sameFates (fatesIn ls e) (fateIf due x) ≡ sameFates (fatesIn rest e) (fateIf (due && not (eqb (l .event) e)) x)
+  pub listed-later : (e : ℕ) (x : Fate) (due : Bool)
+      → (eqb (l .event) e && not (due && sameFate (l .fate) x)) ≡ false
+      → sameFates (fatesIn ls e) (fateIf due x) ≡ sameFates (fatesIn rest e) (fateIf (due && not (eqb (l .event) e)) x)
   unfolding fatesIn sameFates
   listed-later e x due t = rw first (go (eqb (l .event) e) due t)
     where
-      go : (names due : Bool) → (names && not (due && sameFate (l .fate) x)) ≡ false → sameFates (fateIf names (l .fate) ++ fatesIn rest e) (fateIf due x) ≡ sameFates (fatesIn rest e) (fateIf (due && not names) x)
+      go : (names due : Bool)
+          → (names && not (due && sameFate (l .fate) x)) ≡ false
+          → sameFates (fateIf names (l .fate) ++ fatesIn rest e) (fateIf due x) ≡ sameFates (fatesIn rest e) (fateIf (due && not names) x)
       go true true n = rw (not-false (sameFate (l .fate) x) n)
       go true false n = absurd (clash refl n)
       go false due n = rw (and-true due)

@@ -1,5 +1,5 @@
--- Loops over the numbers below a bound, at each of their ends: those that return at the first number that passes a test or gives
--- something, and those that count.
+-- Loops over the numbers below a bound, at each of their ends: those that return at the first number that passes a
+-- test or gives something, and those that count.
 use Prim.Native.Nat.{ℕ, zero, suc, _+_, _-_, _≤_, _<_}
 use native.Mathlib.Nat.{le-antisymm, sub-zero}
 use native.Mathlib.Numerals.{add-one}

@@ -4,7 +4,7 @@ use native.Mathlib.Omega.{arith}
 use mathlib.Core.Bool.{true, false}
 use mathlib.Core.List.{List}
 use mathlib.Core.Option.{none, some}
-use mathlib.Core.Path.{_≡_, refl, sym, _∙_, ap}
+use mathlib.Core.Path.{_≡_, refl, sym, ap}
 use borrow.Author.Tests.{le-leb}
 use lib.Dec.{eqb}
 use lib.ListN.{length, getD}
@@ -28,7 +28,10 @@ record-then b at p later = elim (recordFault p (length b) at (recordAt b at)) [
 ]
 
 -- each record takes a byte or more: two budgets that pass what is left of the sheet read the same
-same-reading : (n m : ℕ) (b : List ℕ) (at : ℕ) (p : Plan) → length b < n + at → length b < m + at → readFrom n b at p ≡ readFrom m b at p
+same-reading : (n m : ℕ) (b : List ℕ) (at : ℕ) (p : Plan)
+    → length b < n + at
+    → length b < m + at
+    → readFrom n b at p ≡ readFrom m b at p
 unfolding readFrom
 same-reading zero m b at p h k = sym (past-end m b at p (omega arith))
 same-reading (suc n) zero b at p h k = past-end (suc n) b at p (omega arith)

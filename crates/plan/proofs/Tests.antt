@@ -54,7 +54,10 @@ either false = inr refl
 pub any-false : (n : ℕ) (p : ℕ → Bool) → anyBelow n p ≡ false → (i : ℕ) → i < n → p i ≡ false
 unfolding anyBelow
 any-false zero p h i lt = absurd (omega arith)
-any-false (suc n) p h i lt = elim (ℕ-discrete i n) [ yes e ↦ rw e (or-left (p n) (anyBelow n p) h) | no ne ↦ any-false n p (or-right (p n) (anyBelow n p) h) i (omega arith) ]
+any-false (suc n) p h i lt = elim (ℕ-discrete i n) [
+  | yes e ↦ rw e (or-left (p n) (anyBelow n p) h)
+  | no ne ↦ any-false n p (or-right (p n) (anyBelow n p) h) i (omega arith)
+]
 
 pub any-none : (n : ℕ) (p : ℕ → Bool) → ((i : ℕ) → i < n → p i ≡ false) → anyBelow n p ≡ false
 unfolding anyBelow
@@ -64,7 +67,10 @@ any-none (suc n) p h = or-both (p n) (anyBelow n p) (h n (omega arith)) (any-non
 pub all-at : (n : ℕ) (p : ℕ → Bool) → allBelow n p ≡ true → (i : ℕ) → i < n → p i ≡ true
 unfolding allBelow
 all-at zero p h i lt = absurd (omega arith)
-all-at (suc n) p h i lt = elim (ℕ-discrete i n) [ yes e ↦ rw e (and-left (p n) (allBelow n p) h) | no ne ↦ all-at n p (and-right (p n) (allBelow n p) h) i (omega arith) ]
+all-at (suc n) p h i lt = elim (ℕ-discrete i n) [
+  | yes e ↦ rw e (and-left (p n) (allBelow n p) h)
+  | no ne ↦ all-at n p (and-right (p n) (allBelow n p) h) i (omega arith)
+]
 
 pub all-of : (n : ℕ) (p : ℕ → Bool) → ((i : ℕ) → i < n → p i ≡ true) → allBelow n p ≡ true
 unfolding allBelow
@@ -74,7 +80,8 @@ all-of (suc n) p h = and-both (p n) (allBelow n p) (h n (omega arith)) (all-of n
 pub any-some : (n : ℕ) (p : ℕ → Bool) (i : ℕ) → i < n → p i ≡ true → anyBelow n p ≡ true
 unfolding anyBelow
 any-some zero p i lt h = absurd (omega arith)
-any-some (suc n) p i lt h = elim (ℕ-discrete i n) [ yes e ↦ rw (← e, h) | no ne ↦ rw (any-some n p i (omega arith) h) (or-right-true (p n)) ]
+any-some (suc n) p i lt h =
+    elim (ℕ-discrete i n) [ yes e ↦ rw (← e, h) | no ne ↦ rw (any-some n p i (omega arith) h) (or-right-true (p n)) ]
 
 -- a number that passes
 pub any-found : (n : ℕ) (p : ℕ → Bool) → anyBelow n p ≡ true → (i : ℕ) × (i < n) × (p i ≡ true)
@@ -82,7 +89,10 @@ unfolding anyBelow
 any-found zero p h = absurd (clash h refl)
 any-found (suc n) p h = go (p n) refl (any-found n p)
   where
-    go : (b : Bool) → p n ≡ b → (anyBelow n p ≡ true → (i : ℕ) × (i < n) × (p i ≡ true)) → (i : ℕ) × (i < suc n) × (p i ≡ true)
+    go : (b : Bool)
+        → p n ≡ b
+        → (anyBelow n p ≡ true → (i : ℕ) × (i < n) × (p i ≡ true))
+        → (i : ℕ) × (i < suc n) × (p i ≡ true)
     go true e rec = (n, omega arith, e)
     go false e rec = let r = rec (rw e at h) in (r .0, omega (arith, r .1), r .2)
 
@@ -104,7 +114,10 @@ module _ {A : Type 0} where
   pub first-none : (n i : ℕ) (g : ℕ → Option A) → firstOf n i g ≡ none → (k : ℕ) → i ≤ k → k < i + n → g k ≡ none
   unfolding firstOf
   first-none zero i g h k lo hi = absurd (omega arith)
-  first-none (suc n) i g h k lo hi = elim (ℕ-discrete k i) [ yes e ↦ rw e (orElse-none-left (g i) (firstOf n (suc i) g) h) | no ne ↦ first-none n (suc i) g (orElse-none-right (g i) (firstOf n (suc i) g) h) k (omega arith) (omega arith) ]
+  first-none (suc n) i g h k lo hi = elim (ℕ-discrete k i) [
+    | yes e ↦ rw e (orElse-none-left (g i) (firstOf n (suc i) g) h)
+    | no ne ↦ first-none n (suc i) g (orElse-none-right (g i) (firstOf n (suc i) g) h) k (omega arith) (omega arith)
+  ]
 
   -- what is found, and where
   pub record Found (n i : ℕ) (g : ℕ → Option A) (a : A) : Type 0 where
@@ -119,9 +132,28 @@ module _ {A : Type 0} where
   first-some zero i g a h = absurd (let z : _≡_ {A = ℕ} 0 1 = cc in omega arith)
   first-some (suc n) i g a h = go (g i) refl (first-some n (suc i) g a) h
     where
-      go : (o : Option A) → g i ≡ o → (firstOf n (suc i) g ≡ some a → Found n (suc i) g a) → orElse o (firstOf n (suc i) g) ≡ some a → Found (suc n) i g a
-      go (some b) e rec q = record { place = i; from = omega arith; upto = omega arith; gives = cc; before = λ k lo hi. absurd (omega arith) }
-      go none e rec q = let r : Found n (suc i) g a = rec q in record { place = r .place; from = omega arith; upto = omega arith; gives = r .gives; before = λ k lo hi. elim (ℕ-discrete k i) [ yes e′ ↦ rw e′ e | no ne ↦ r .before k (omega arith) hi ] }
+      go : (o : Option A)
+          → g i ≡ o
+          → (firstOf n (suc i) g ≡ some a → Found n (suc i) g a)
+          → orElse o (firstOf n (suc i) g) ≡ some a
+          → Found (suc n) i g a
+      go (some b) e rec q =
+          record {
+            place = i;
+            from = omega arith;
+            upto = omega arith;
+            gives = cc;
+            before = λ k lo hi. absurd (omega arith);
+          }
+      go none e rec q =
+          let r : Found n (suc i) g a = rec q in
+          record {
+            place = r .place;
+            from = omega arith;
+            upto = omega arith;
+            gives = r .gives;
+            before = λ k lo hi. elim (ℕ-discrete k i) [ yes e′ ↦ rw e′ e | no ne ↦ r .before k (omega arith) hi ];
+          }
 
 -- a test that guards a value
 module _ {A : Type 0} where
@@ -157,7 +189,12 @@ count-zero zero t h = refl
 count-zero (suc n) t h = rw (h n (omega arith), count-zero n t (λ e l. h e (omega arith)))
 
 -- one number more passes
-pub count-more : (n : ℕ) (p q : ℕ → Bool) (e : ℕ) → e < n → p e ≡ false → q e ≡ true → ((i : ℕ) → i ≢ e → p i ≡ q i) → countBelow n q ≡ suc (countBelow n p)
+pub count-more : (n : ℕ) (p q : ℕ → Bool) (e : ℕ)
+    → e < n
+    → p e ≡ false
+    → q e ≡ true
+    → ((i : ℕ) → i ≢ e → p i ≡ q i)
+    → countBelow n q ≡ suc (countBelow n p)
 unfolding countBelow
 count-more zero p q e lt pe qe h = absurd (omega arith)
 count-more (suc n) p q e lt pe qe h = elim (ℕ-discrete e n) [
@@ -169,7 +206,8 @@ count-more (suc n) p q e lt pe qe h = elim (ℕ-discrete e n) [
 pub count-none : (n : ℕ) (p : ℕ → Bool) → countBelow n p ≡ 0 → (i : ℕ) → i < n → p i ≡ false
 unfolding countBelow
 count-none zero p h i lt = absurd (omega arith)
-count-none (suc n) p h i lt = elim (ℕ-discrete i n) [ yes e ↦ rw e (go (p n) refl) | no ne ↦ count-none n p (omega arith) i (omega arith) ]
+count-none (suc n) p h i lt =
+    elim (ℕ-discrete i n) [ yes e ↦ rw e (go (p n) refl) | no ne ↦ count-none n p (omega arith) i (omega arith) ]
   where
     go : (b : Bool) → p n ≡ b → p n ≡ false
     go false e = e

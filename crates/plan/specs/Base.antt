@@ -50,7 +50,8 @@ module _ {A : Type 0} where
   tabulate zero i g = []
   tabulate (suc n) i g = g i ∷ tabulate n (suc i) g
 
-  -- element i of an array of n elements, and the default past its end. The bound is a test, so that no length has to be known
+  -- element i of an array of n elements, and the default past its end. The bound is a test, so that no length has to
+  -- be known
   abbrev pub readAt : ℕ → List A → ℕ → A → A
   readAt n l i d = cond (ltb i n) (getD l i d) d
 

@@ -1,3 +1,4 @@
+-- What has to be believed of a plan: its definitions, lowest first.
 pub mod Prelude
 pub mod Base
 pub mod Fates

@@ -1,5 +1,5 @@
 -- Rules: which a sheet takes, and what they forbid and owe, of a plan and the fates of its events.
-use Rattle.plan.specs.Prelude.{ℕ, Bool, true, false, not, _&&_, _||_, eqb, ltb, Rule, Order, Need, Conditional, Plan}
+use Rattle.plan.specs.Prelude.{ℕ, Bool, false, not, _&&_, _||_, eqb, ltb, Rule, Order, Need, Conditional, Plan}
 use Rattle.plan.specs.Fates.{Fates, isOpen, isHeld, isDone, isGone, isSettled}
 use Rattle.plan.specs.Plans.{eventCount, stepOf, attributesOf, ruleAt, holdsBit, forcible, rejectable, delayable}
 

@@ -11,7 +11,8 @@ pub enum Call {
     Finish,
 }
 
-// What stands at an offset of the bytes of calls: a call's record, their end, or a record that is cut or of another kind.
+// What stands at an offset of the bytes of calls: a call's record, their end, or a record that is cut or of another
+// kind.
 pub enum CallRead {
     Listed(Call),
     End,

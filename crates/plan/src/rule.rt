@@ -1,5 +1,5 @@
-// Rules: which a sheet takes, and what one forbids and owes by the fates of events. Tests of a single rule take the arrays that they
-// read, and not the whole plan: they say what holds of every plan with these events.
+// Rules: which a sheet takes, and what one forbids and owes by the fates of events. Tests of a single rule take the
+// arrays that they read, and not the whole plan: they say what holds of every plan with these events.
 use super::event::Event;
 use super::event::event_in;
 use super::event::is_delayable;

@@ -1,1 +1,2 @@
+-- Rows of what the readers answer.
 pub mod Cases

@@ -1,1 +1,2 @@
+-- What a caller reads of a state.
 pub mod Readers

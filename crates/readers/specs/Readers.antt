@@ -1,5 +1,5 @@
--- What a reader of the state answers. An event, a rule or a line is declared if its number is below its count and below 16, a step if it
--- is at most 7; an undeclared number has an answer of its own, which is not "open".
+-- What a reader of the state answers. An event, a rule or a line is declared if its number is below its count and
+-- below 16, a step if it is at most 7; an undeclared number has an answer of its own, which is not "open".
 use Prim.Native.Nat.{ℕ}
 use mathlib.Core.Bool.{Bool, _&&_, cond}
 use lib.Dec.{ltb}

@@ -1,4 +1,5 @@
--- A report is short: `report-within` and `report-short`, for an outcome whose numbers fit their types. `small` has that of an outcome that code holds.
+-- A report is short: `report-within` and `report-short`, for an outcome whose numbers fit their types. `small` has
+-- that of an outcome that code holds.
 use Prim.Native.Nat.{ℕ, zero, suc, _+_, _*_, _/_, _≤_, _<_}
 use native.Mathlib.Omega.{arith}
 use native.Mathlib.Decide.{decLt}
@@ -37,14 +38,21 @@ pub record Small (o : Outcome) : Type 0 where
   pub offset : (f : SheetFault) (at : ℕ) → o .verdict ≡ Faulty f at → at < 18446744073709551616
 
 -- what owning the entries of a history tells
-entries-small : (h : List Entry) (us : List Val) → shadow (each ((Struct (shape the-entry.the-type)) .Denot) ((Struct (shape the-entry.the-type)) .own) (map (the-entry.the-type .to) h) us) → (i : ℕ) → getD h i blankEntry .event < 256
+entries-small : (h : List Entry) (us : List Val)
+    → shadow (each ((Struct (shape the-entry.the-type)) .Denot) ((Struct (shape the-entry.the-type)) .own) (map (the-entry.the-type .to) h) us)
+    → (i : ℕ)
+    → getD h i blankEntry .event < 256
 entries-small [] us g i = omega arith
 entries-small (e ∷ h) [] g i = absurd g
 entries-small (e ∷ h) (u ∷ us) g zero = g .0 .1 .1 .0 .1
 entries-small (e ∷ h) (u ∷ us) g (suc i) = entries-small h us (g .1) i
 
 -- what owning a verdict tells
-offset-small : (v : Verdict) {vs : List Val} → Is (enum.row the-verdict.the-type) v vs → (f : SheetFault) (at : ℕ) → v ≡ Faulty f at → at < 18446744073709551616
+offset-small : (v : Verdict) {vs : List Val}
+    → Is (enum.row the-verdict.the-type) v vs
+    → (f : SheetFault) (at : ℕ)
+    → v ≡ Faulty f at
+    → at < 18446744073709551616
 offset-small Admitted g f at e = absurd (let z : _≡_ {A = ℕ} 0 1 = cc in omega arith)
 offset-small (Faulty k n) g f at e =
     let same : n ≡ at = cc in
@@ -101,23 +109,31 @@ fate-few Lapsed = omega arith
 
 -- a history line has at most 12 bytes
 entry-few : (l : Entry) → l .event < 256 → length (entryLine l) ≤ 12
-entry-few l h = omega (arith, ap length (entry-split l) ∙ length-append (decimal (l .event)) (fateEnd (l .fate)), three (l .event) h, fate-few (l .fate))
+entry-few l h =
+    omega (arith, ap length (entry-split l) ∙ length-append (decimal (l .event)) (fateEnd (l .fate)), three (l .event) h, fate-few (l .fate))
 
 -- a history takes at most 12 bytes for each line
 lines-few : (h : List Entry) → ((i : ℕ) → getD h i blankEntry .event < 256) → length (historyLines h) ≤ 12 * length h
 unfolding historyLines
 lines-few [] small = omega arith
-lines-few (l ∷ h) small = omega (arith, length-append (entryLine l) (historyLines h), entry-few l (small 0), lines-few h (λ i. small (suc i)))
+lines-few (l ∷ h) small =
+    omega (arith, length-append (entryLine l) (historyLines h), entry-few l (small 0), lines-few h (λ i. small (suc i)))
 
 -- a word, a number and the line's end
 line-length : (word : List ℕ) (x : ℕ) → length (line (word ++ decimal x)) ≡ length word + length (decimal x) + 1
-line-length word x = length-append (word ++ decimal x) (10 ∷ []) ∙ ap (λ (n : ℕ). n + 1) (length-append word (decimal x))
+line-length word x =
+    length-append (word ++ decimal x) (10 ∷ []) ∙ ap (λ (n : ℕ). n + 1) (length-append word (decimal x))
 
 -- the first line, the last lines, and the line of a sheet turned down
 head-few : (events rules : ℕ) → events < 256 → rules < 256 → length (head events rules) ≤ 21
-head-few events rules h k = omega (arith, ap length (head-split events rules) ∙ length-append (eventsLead ++ decimal events) (line (rulesLead ++ decimal rules)), line-length rulesLead rules, three events h, three rules k)
+head-few events rules h k =
+    omega (arith, ap length (head-split events rules) ∙ length-append (eventsLead ++ decimal events) (line (rulesLead ++ decimal rules)), line-length rulesLead rules, three events h, three rules k)
 
-tail-few : (held broken refused : ℕ) → held < 256 → broken < 256 → refused < 18446744073709551616 → length (tail held broken refused) ≤ 55
+tail-few : (held broken refused : ℕ)
+    → held < 256
+    → broken < 256
+    → refused < 18446744073709551616
+    → length (tail held broken refused) ≤ 55
 tail-few held broken refused h k r =
     omega (
       arith,
@@ -132,7 +148,8 @@ tail-few held broken refused h k r =
     )
 
 fault-line-few : (f : SheetFault) (at : ℕ) → at < 18446744073709551616 → length (faultLine f at) ≤ 36
-fault-line-few f at h = omega (arith, ap length (fault-is f at (sheetFaultNumber f) refl) ∙ length-append (refusedLead ++ decimal (sheetFaultNumber f)) (line (atLead ++ decimal at)), line-length atLead at, three (sheetFaultNumber f) (fault-few f), twenty at h)
+fault-line-few f at h =
+    omega (arith, ap length (fault-is f at (sheetFaultNumber f) refl) ∙ length-append (refusedLead ++ decimal (sheetFaultNumber f)) (line (atLead ++ decimal at)), line-length atLead at, three (sheetFaultNumber f) (fault-few f), twenty at h)
 
 module _ (o : Outcome) (fits : Small o) where
   -- 16 lines of 12 bytes

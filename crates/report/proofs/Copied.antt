@@ -19,7 +19,9 @@ module _ (text out : List ℕ) where
 
   module _ (fits : length text ≤ length out) where
     -- one byte more
-    pub copy-next : (i : ℕ) → i < length text → set (take i text ++ drop i out) i (getD text i 0) ≡ take (i + 1) text ++ drop (i + 1) out
+    pub copy-next : (i : ℕ)
+        → i < length text
+        → set (take i text ++ drop i out) i (getD text i 0) ≡ take (i + 1) text ++ drop (i + 1) out
     copy-next i h =
         rw (add-one i, take-suc text i 0 h, drop-cons out i 0 (omega arith))
         (set-at (take i text) (getD out i 0) (drop (suc i) out) (getD text i 0) i (length-take-le i text (omega arith)) ∙ sym (append-snoc (take i text) (getD text i 0) (drop (suc i) out)))

@@ -12,7 +12,9 @@ use Rattle.scheduler.proofs.Decimals.{digits-enough}
 use Rattle.report.specs.Internal.Written.{written, Put}
 
 -- stores after stores are the stores of both texts
-sets-more : (page : List ℕ) (at n : ℕ) (a b : List ℕ) → n ≡ at + length a → sets (sets page at a) n b ≡ sets page at (a ++ b)
+sets-more : (page : List ℕ) (at n : ℕ) (a b : List ℕ)
+    → n ≡ at + length a
+    → sets (sets page at a) n b ≡ sets page at (a ++ b)
 sets-more page at n [] b e = ap (λ (k : ℕ). sets page k b) (omega arith)
 sets-more page at n (x ∷ a) b e = sets-more (set page at x) (suc at) n a b (omega arith)
 
@@ -27,7 +29,10 @@ unfolding written
 put-byte page at b = record { ends = refl; bytes = refl }
 
 -- a text, and one after it
-pub put-then : {page : List ℕ} {at : ℕ} {a : List ℕ} {mid : List ℕ} {n : ℕ} {b : List ℕ} {after : List ℕ} {end : ℕ} → Put page at a mid n → Put mid n b after end → Put page at (a ++ b) after end
+pub put-then : {page : List ℕ} {at : ℕ} {a : List ℕ} {mid : List ℕ} {n : ℕ} {b : List ℕ} {after : List ℕ} {end : ℕ}
+    → Put page at a mid n
+    → Put mid n b after end
+    → Put page at (a ++ b) after end
 unfolding written
 put-then {page} {at} {a} {mid} {n} {b} {after} {end} p q = record {
   ends = omega (arith, length-append a b, p .ends, q .ends);
@@ -35,7 +40,10 @@ put-then {page} {at} {a} {mid} {n} {b} {after} {end} p q = record {
 }
 
 -- the same text under another name
-pub put-as : {page : List ℕ} {at : ℕ} {a b : List ℕ} {after : List ℕ} {end : ℕ} → a ≡ b → Put page at a after end → Put page at b after end
+pub put-as : {page : List ℕ} {at : ℕ} {a b : List ℕ} {after : List ℕ} {end : ℕ}
+    → a ≡ b
+    → Put page at a after end
+    → Put page at b after end
 put-as {page} {at} {a} {b} {after} {end} e p = rw e at p
 
 -- nothing of a word
@@ -44,14 +52,23 @@ unfolding written
 word-none page at = record { ends = refl; bytes = refl }
 
 -- a word: one byte more
-pub word-next : (word page after : List ℕ) (at i : ℕ) → i < length word → Put page at (take i word) after (at + i) → Put page at (take (i + 1) word) (set after (at + i) (getD word i 0)) (at + (i + 1))
-word-next word page after at i h p = rw (add-one i, take-suc word i 0 h) (put-end (put-then p (put-byte after (at + i) (getD word i 0))))
+pub word-next : (word page after : List ℕ) (at i : ℕ)
+    → i < length word
+    → Put page at (take i word) after (at + i)
+    → Put page at (take (i + 1) word) (set after (at + i) (getD word i 0)) (at + (i + 1))
+word-next word page after at i h p =
+    rw (add-one i, take-suc word i 0 h) (put-end (put-then p (put-byte after (at + i) (getD word i 0))))
   where
-    put-end : Put page at (take i word ++ (getD word i 0 ∷ [])) (set after (at + i) (getD word i 0)) (at + i + 1) → Put page at (take i word ++ (getD word i 0 ∷ [])) (set after (at + i) (getD word i 0)) (at + suc i)
+    put-end : Put page at (take i word ++ (getD word i 0 ∷ [])) (set after (at + i) (getD word i 0)) (at + i + 1)
+        → Put page at (take i word ++ (getD word i 0 ∷ [])) (set after (at + i) (getD word i 0)) (at + suc i)
     put-end q = record { ends = omega (arith, q .ends); bytes = q .bytes }
 
 -- the whole word
-pub word-all : (word page after : List ℕ) (at i : ℕ) → length word ≤ i → i ≤ length word → Put page at (take i word) after (at + i) → Put page at word after (at + length word)
+pub word-all : (word page after : List ℕ) (at i : ℕ)
+    → length word ≤ i
+    → i ≤ length word
+    → Put page at (take i word) after (at + i)
+    → Put page at word after (at + length word)
 word-all word page after at i h k p = let e : i ≡ length word = omega arith in rw e at (put-as (take-all i word h) p)
 
 -- a number below 10 is one digit, and any other has the digits of its tenth first

@@ -30,7 +30,10 @@ module _ {text : List ℕ} (a b : List ℕ) (split : text ≡ a ++ b) where
   room-then at n room ends = omega (arith, sizes)
 
   -- it is put by putting both
-  pub put-both : {page : List ℕ} {at : ℕ} {mid : List ℕ} {n : ℕ} {after : List ℕ} {end : ℕ} → Put page at a mid n → Put mid n b after end → Put page at text after end
+  pub put-both : {page : List ℕ} {at : ℕ} {mid : List ℕ} {n : ℕ} {after : List ℕ} {end : ℕ}
+      → Put page at a mid n
+      → Put mid n b after end
+      → Put page at text after end
   put-both p q = put-as (sym split) (put-then p q)
 
 -- a word and a space, before a number
@@ -63,24 +66,40 @@ fate-room at {x} {y} e room = omega (arith, ap (λ (z : Fate). length (fateEnd z
 pub entry-split : (l : Entry) → entryLine l ≡ decimal (l .event) ++ fateEnd (l .fate)
 entry-split l = append-assoc (decimal (l .event)) (32 ∷ fateWord (l .fate)) (10 ∷ [])
 
-pub head-split : (events rules : ℕ) → head events rules ≡ (eventsLead ++ decimal events) ++ line (rulesLead ++ decimal rules)
+pub head-split : (events rules : ℕ)
+    → head events rules ≡ (eventsLead ++ decimal events) ++ line (rulesLead ++ decimal rules)
 unfolding head
-head-split events rules = ap (λ (l : List ℕ). eventsLead ++ l) (append-assoc (decimal events) (rulesLead ++ decimal rules) (10 ∷ []))
+head-split events rules =
+    ap (λ (l : List ℕ). eventsLead ++ l) (append-assoc (decimal events) (rulesLead ++ decimal rules) (10 ∷ []))
 
-fault-split : (f : SheetFault) (at : ℕ) → faultLine f at ≡ (refusedLead ++ decimal (sheetFaultNumber f)) ++ line (atLead ++ decimal at)
+fault-split : (f : SheetFault) (at : ℕ)
+    → faultLine f at ≡ (refusedLead ++ decimal (sheetFaultNumber f)) ++ line (atLead ++ decimal at)
 unfolding faultLine
-fault-split f at = ap (λ (l : List ℕ). refusedLead ++ l) (append-assoc (decimal (sheetFaultNumber f)) (atLead ++ decimal at) (10 ∷ []))
+fault-split f at =
+    ap (λ (l : List ℕ). refusedLead ++ l) (append-assoc (decimal (sheetFaultNumber f)) (atLead ++ decimal at) (10 ∷ []))
 
-pub fault-is : (f : SheetFault) (at n : ℕ) → n ≡ sheetFaultNumber f → faultLine f at ≡ (refusedLead ++ decimal n) ++ line (atLead ++ decimal at)
+pub fault-is : (f : SheetFault) (at n : ℕ)
+    → n ≡ sheetFaultNumber f
+    → faultLine f at ≡ (refusedLead ++ decimal n) ++ line (atLead ++ decimal at)
 fault-is f at n same = rw same (fault-split f at)
 
-pub tail-split : (held broken refused : ℕ) → tail held broken refused ≡ line (heldLead ++ decimal held) ++ (line (brokenLead ++ decimal broken) ++ line (callsLead ++ decimal refused))
+pub tail-split : (held broken refused : ℕ)
+    → tail held broken refused ≡ line (heldLead ++ decimal held) ++ (line (brokenLead ++ decimal broken) ++ line (callsLead ++ decimal refused))
 unfolding tail
-tail-split held broken refused = append-assoc (line (heldLead ++ decimal held)) (line (brokenLead ++ decimal broken)) (line (callsLead ++ decimal refused))
+tail-split held broken refused =
+    append-assoc
+    (line (heldLead ++ decimal held))
+    (line (brokenLead ++ decimal broken))
+    (line (callsLead ++ decimal refused))
 
-pub state-split : (s : State) (refused : ℕ) → stateText s refused ≡ head (eventCount (s .plan)) (ruleCount (s .plan)) ++ (historyLines (lines s) ++ tail (heldCount s) (brokenCount s) refused)
+pub state-split : (s : State) (refused : ℕ)
+    → stateText s refused ≡ head (eventCount (s .plan)) (ruleCount (s .plan)) ++ (historyLines (lines s) ++ tail (heldCount s) (brokenCount s) refused)
 unfolding stateText
-state-split s refused = append-assoc (head (eventCount (s .plan)) (ruleCount (s .plan))) (historyLines (lines s)) (tail (heldCount s) (brokenCount s) refused)
+state-split s refused =
+    append-assoc
+    (head (eventCount (s .plan)) (ruleCount (s .plan)))
+    (historyLines (lines s))
+    (tail (heldCount s) (brokenCount s) refused)
 
 -- the history's lines, in two parts
 pub lines-append : (h k : List Entry) → historyLines (h ++ k) ≡ historyLines h ++ historyLines k
@@ -107,8 +126,11 @@ module _ (h : List Entry) (len : ℕ) (whole : length h ≡ 16) where
   ]
 
   -- one line more
-  pub lines-next : (i : ℕ) → i < 16 → historyLines (take (i + 1) h) ≡ historyLines (take i h) ++ entryLine (getD h i blankEntry)
-  lines-next i lt = rw (add-one i, take-suc h i blankEntry (omega arith), lines-append (take i h) (getD h i blankEntry ∷ []), lines-one (getD h i blankEntry))
+  pub lines-next : (i : ℕ)
+      → i < 16
+      → historyLines (take (i + 1) h) ≡ historyLines (take i h) ++ entryLine (getD h i blankEntry)
+  lines-next i lt =
+      rw (add-one i, take-suc h i blankEntry (omega arith), lines-append (take i h) (getD h i blankEntry ∷ []), lines-one (getD h i blankEntry))
 
   -- the lines before k take no more than those before n
   upto : (k n : ℕ) → k ≤ n → length (historyLines (take k h)) ≤ length (historyLines (take n h))
@@ -117,7 +139,11 @@ module _ (h : List Entry) (len : ℕ) (whole : length h ≡ 16) where
       omega (arith, ap length parts ∙ length-append (historyLines (take k h)) (historyLines (drop k (take n h))))
 
   -- there is room for one line more
-  pub lines-room : (at next i : ℕ) → i < min len 16 → at + length (historyLines (take len h)) ≤ 320 → next ≡ at + length (historyLines (take i h)) → next + length (entryLine (getD h i blankEntry)) ≤ 320
+  pub lines-room : (at next i : ℕ)
+      → i < min len 16
+      → at + length (historyLines (take len h)) ≤ 320
+      → next ≡ at + length (historyLines (take i h))
+      → next + length (entryLine (getD h i blankEntry)) ≤ 320
   lines-room at next i lt room ends =
       omega (arith, upto (i + 1) len (omega arith), ap length (lines-next i (omega arith)) ∙ length-append (historyLines (take i h)) (entryLine (getD h i blankEntry)))
 
@@ -132,21 +158,38 @@ module _ (s : State) (refused : ℕ) where
   module _ (held broken : ℕ) (same-held : held ≡ heldCount s) (same-broken : broken ≡ brokenCount s) where
     -- the last lines, with those counts
     tail-same : tail held broken refused ≡ tail (heldCount s) (brokenCount s) refused
-    tail-same = ap (λ (n : ℕ). tail n broken refused) same-held ∙ ap (λ (n : ℕ). tail (heldCount s) n refused) same-broken
+    tail-same =
+        ap (λ (n : ℕ). tail n broken refused) same-held ∙ ap (λ (n : ℕ). tail (heldCount s) n refused) same-broken
 
     -- the three parts are put
-    pub state-put : {page a b after : List ℕ} {n m end : ℕ} → Put page 0 top a n → Put a n (historyLines (lines s)) b m → Put b m (tail held broken refused) after end → Put page 0 (stateText s refused) after end
+    pub state-put : {page a b after : List ℕ} {n m end : ℕ}
+        → Put page 0 top a n
+        → Put a n (historyLines (lines s)) b m
+        → Put b m (tail held broken refused) after end
+        → Put page 0 (stateText s refused) after end
     state-put p q r = put-both top rest (state-split s refused) p (put-then q (put-as tail-same r))
 
     -- each has room, where the whole has
-    pub state-tail : (n m : ℕ) → length (stateText s refused) ≤ 320 → n ≡ 0 + length top → m ≡ n + length (historyLines (lines s)) → m + length (tail held broken refused) ≤ 320
-    state-tail n m room p q = rw tail-same (room-then (historyLines (lines s)) (tail (heldCount s) (brokenCount s) refused) refl n m (room-then top rest (state-split s refused) 0 n (omega arith) p) q)
+    pub state-tail : (n m : ℕ)
+        → length (stateText s refused) ≤ 320
+        → n ≡ 0 + length top
+        → m ≡ n + length (historyLines (lines s))
+        → m + length (tail held broken refused) ≤ 320
+    state-tail n m room p q =
+        rw tail-same (room-then (historyLines (lines s)) (tail (heldCount s) (brokenCount s) refused) refl n m (room-then top rest (state-split s refused) 0 n (omega arith) p) q)
 
   pub state-head : length (stateText s refused) ≤ 320 → 0 + length top ≤ 320
   state-head room = room-first top rest (state-split s refused) 0 (omega arith)
 
-  pub state-lines : (n : ℕ) → length (stateText s refused) ≤ 320 → n ≡ 0 + length top → n + length (historyLines (lines s)) ≤ 320
-  state-lines n room p = room-first (historyLines (lines s)) (tail (heldCount s) (brokenCount s) refused) refl n (room-then top rest (state-split s refused) 0 n (omega arith) p)
+  pub state-lines : (n : ℕ)
+      → length (stateText s refused) ≤ 320
+      → n ≡ 0 + length top
+      → n + length (historyLines (lines s)) ≤ 320
+  state-lines n room p =
+      room-first
+      (historyLines (lines s))
+      (tail (heldCount s) (brokenCount s) refused) refl n
+      (room-then top rest (state-split s refused) 0 n (omega arith) p)
 
 -- five texts, the last three as one
 regroup : (a b c d e : List ℕ) → a ++ b ++ c ++ d ++ e ≡ a ++ b ++ (c ++ d ++ e)

@@ -2,8 +2,8 @@
 use libc::STDOUT_FILENO;
 ghost use Rattle.io.specs.Counts.{Counts};
 
-// Fills the buffer from the start of a file, as far as both go. A missing file counts as empty; one that cannot be opened for another
-// reason does too, and is named on standard error.
+// Fills the buffer from the start of a file, as far as both go. A missing file counts as empty; one that cannot be
+// opened for another reason does too, and is named on standard error.
 fn read_file(path: &[u8], buf: &mut [u8]) -> usize
     ensures { λ r. ⌜ Counts r (now (buf .exit)) ⌝ }
 {

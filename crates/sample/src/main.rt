@@ -1,5 +1,5 @@
-// Runs the reader of sheets, the search, single calls and the readers of a state on small sheets and prints what comes of each: the gate
-// compares it with the file `stdout`.
+// Runs the reader of sheets, the search, single calls and the readers of a state on small sheets and prints what
+// comes of each: the gate compares it with the file `stdout`.
 use libc::STDOUT_FILENO;
 use plan::answer::Answer;
 use plan::answer::Verdict;
@@ -229,7 +229,8 @@ fn show_state(state: State) {
     show_number_read(state, 2);
 }
 
-// Calls of each sort on one sheet, each on the state that the one before gave, and one on a state that was changed by hand.
+// Calls of each sort on one sheet, each on the state that the one before gave, and one on a state that was changed by
+// hand.
 fn show_calls(sheet: &[u8]) {
     let reading = sheet::read::read_sheet(sheet);
     let first = reading.state;

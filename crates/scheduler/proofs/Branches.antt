@@ -28,7 +28,10 @@ pub decide-order : (s : State) (e : ℕ) (o : List ℕ) → chosen s e ≡ some 
 unfolding decide
 decide-order s e o h = rw (h, decide)
 
-pub decide-refuse : (s : State) (e : ℕ) → chosen s e ≡ none → rejectable (s .plan) e ≡ true → decide s e ≡ settleAs Refused s e
+pub decide-refuse : (s : State) (e : ℕ)
+    → chosen s e ≡ none
+    → rejectable (s .plan) e ≡ true
+    → decide s e ≡ settleAs Refused s e
 unfolding decide
 decide-refuse s e h r = rw (h, r, decide)
 
@@ -41,20 +44,30 @@ pub submit-same : (s : State) (e : ℕ) → isOpen (fateOf s e) ≡ false → su
 unfolding submit
 submit-same s e h = rw (h, submit)
 
-pub submit-delayed : (s : State) (e : ℕ) → isOpen (fateOf s e) ≡ true → delayable (s .plan) e ≡ true → submit s e ≡ settle (hold s e)
+pub submit-delayed : (s : State) (e : ℕ)
+    → isOpen (fateOf s e) ≡ true
+    → delayable (s .plan) e ≡ true
+    → submit s e ≡ settle (hold s e)
 unfolding submit
 submit-delayed s e h d = rw (h, d, submit)
 
-pub submit-decided : (s : State) (e : ℕ) → isOpen (fateOf s e) ≡ true → delayable (s .plan) e ≡ false → submit s e ≡ settle (decide (hold s e) e)
+pub submit-decided : (s : State) (e : ℕ)
+    → isOpen (fateOf s e) ≡ true
+    → delayable (s .plan) e ≡ false
+    → submit s e ≡ settle (decide (hold s e) e)
 unfolding submit
 submit-decided s e h d = rw (h, d, submit)
 
 -- lapsing
-pub lapse-yes : (n e : ℕ) (s : State) (k : ℕ) → (isOpen (fateOf s e) && eqb (stepOf (s .plan) e) k) ≡ true → lapse (suc n) e s k ≡ lapse n (suc e) (settleAs Lapsed s e) k
+pub lapse-yes : (n e : ℕ) (s : State) (k : ℕ)
+    → (isOpen (fateOf s e) && eqb (stepOf (s .plan) e) k) ≡ true
+    → lapse (suc n) e s k ≡ lapse n (suc e) (settleAs Lapsed s e) k
 unfolding lapse
 lapse-yes n e s k h = rw (h, lapse)
 
-pub lapse-no : (n e : ℕ) (s : State) (k : ℕ) → (isOpen (fateOf s e) && eqb (stepOf (s .plan) e) k) ≡ false → lapse (suc n) e s k ≡ lapse n (suc e) s k
+pub lapse-no : (n e : ℕ) (s : State) (k : ℕ)
+    → (isOpen (fateOf s e) && eqb (stepOf (s .plan) e) k) ≡ false
+    → lapse (suc n) e s k ≡ lapse n (suc e) s k
 unfolding lapse
 lapse-no n e s k h = rw (h, lapse)
 
@@ -66,12 +79,16 @@ pub refuse-none : (n : ℕ) (s : State) → lowestHeld s ≡ none → refuseHeld
 unfolding refuseHeld
 refuse-none n s h = rw (h, refuseHeld)
 
-pub refuse-some : (n : ℕ) (s : State) (e : ℕ) → lowestHeld s ≡ some e → refuseHeld (suc n) s ≡ refuseHeld n (settle (settleAs Refused s e))
+pub refuse-some : (n : ℕ) (s : State) (e : ℕ)
+    → lowestHeld s ≡ some e
+    → refuseHeld (suc n) s ≡ refuseHeld n (settle (settleAs Refused s e))
 unfolding refuseHeld
 refuse-some n s e h = rw (h, refuseHeld)
 
 -- a call turned down, and one that is taken
-pub call-fault : (s : State) (c : Call) (f : CallFault) → callFault s c ≡ some f → call s c ≡ record { answer = TurnedDown f; state = s }
+pub call-fault : (s : State) (c : Call) (f : CallFault)
+    → callFault s c ≡ some f
+    → call s c ≡ record { answer = TurnedDown f; state = s }
 unfolding call
 call-fault s c f h = rw (h, call)
 

@@ -48,14 +48,26 @@ module _ (s : State) (e : ℕ) (after : State) where
   record-zero = refl
 
   -- rule i, if it is strained
-  pub record-next : (i : ℕ) (next : State) (is : Bool) → after ≡ settleAs Done s e → recordBroken i s e after ≡ next → is ≡ (stands s i && (forbids (s .plan) (fateOf s) (ruleAt (s .plan) i) e || owes (s .plan) (fateOf after) (ruleAt (s .plan) i))) → recordBroken (i + 1) s e after ≡ breakIf is next i
+  pub record-next : (i : ℕ) (next : State) (is : Bool)
+      → after ≡ settleAs Done s e
+      → recordBroken i s e after ≡ next
+      → is ≡ (stands s i && (forbids (s .plan) (fateOf s) (ruleAt (s .plan) i) e || owes (s .plan) (fateOf after) (ruleAt (s .plan) i)))
+      → recordBroken (i + 1) s e after ≡ breakIf is next i
   unfolding recordBroken strains
   record-next i next is done before test = rw (add-one i, before, test, done)
 
   -- all at last
-  pub record-all : (i : ℕ) (next : State) → after ≡ settleAs Done s e → recordBroken i s e after ≡ next → i ≤ ruleCount (s .plan) → ruleCount (s .plan) ≤ i → next ≡ doAlone s e
+  pub record-all : (i : ℕ) (next : State)
+      → after ≡ settleAs Done s e
+      → recordBroken i s e after ≡ next
+      → i ≤ ruleCount (s .plan)
+      → ruleCount (s .plan) ≤ i
+      → next ≡ doAlone s e
   unfolding doAlone
-  record-all i next done before le ge = sym before ∙ ap (λ (n : ℕ). recordBroken n s e after) (le-antisymm le ge) ∙ ap (recordBroken (ruleCount (s .plan)) s e) done
+  record-all i next done before le ge =
+      sym before
+      ∙ ap (λ (n : ℕ). recordBroken n s e after) (le-antisymm le ge)
+      ∙ ap (recordBroken (ruleCount (s .plan)) s e) done
 
 -- deciding an event, by what the search for an order gives
 module _ (s : State) (e : ℕ) (r : Found) (same : r ≡ foundOrder (chosen s e)) where
@@ -87,13 +99,22 @@ module _ (s : State) (e : ℕ) (is : Bool) (test : is ≡ isOpen (fateOf s e)) w
 
     -- an open one that is not
     pub hand-decided : (u : State) → late ≡ false → u ≡ decide held e → t ≡ settle u → t ≡ submit s e
-    hand-decided u d first done = done ∙ ap settle (first ∙ ap (λ (w : State). decide w e) holds) ∙ sym (submit-decided s e (says-yes is _ test fresh) (sym delay ∙ d))
+    hand-decided u d first done =
+        done
+        ∙ ap settle (first ∙ ap (λ (w : State). decide w e) holds)
+        ∙ sym (submit-decided s e (says-yes is _ test fresh) (sym delay ∙ d))
 
 -- one event lapses, or not
 module _ (s : State) (e k : ℕ) where
   -- the test by what the code reads
-  pub lapse-test : (v : Event) (x : Fate) (is : Bool) → v ≡ readAt 16 (s .plan .events) e blankEvent → x ≡ fateOf s e → is ≡ isOpen x → (is && eqb (v .step) k) ≡ (isOpen (fateOf s e) && eqb (stepOf (s .plan) e) k)
-  lapse-test v x is read fate test = ap (λ (b : Bool). b && eqb (v .step) k) (test ∙ ap isOpen fate) ∙ ap (λ (w : Event). isOpen (fateOf s e) && eqb (w .step) k) read
+  pub lapse-test : (v : Event) (x : Fate) (is : Bool)
+      → v ≡ readAt 16 (s .plan .events) e blankEvent
+      → x ≡ fateOf s e
+      → is ≡ isOpen x
+      → (is && eqb (v .step) k) ≡ (isOpen (fateOf s e) && eqb (stepOf (s .plan) e) k)
+  lapse-test v x is read fate test =
+      ap (λ (b : Bool). b && eqb (v .step) k) (test ∙ ap isOpen fate)
+      ∙ ap (λ (w : Event). isOpen (fateOf s e) && eqb (w .step) k) read
 
   -- it lapses
   pub lapses : (isOpen (fateOf s e) && eqb (stepOf (s .plan) e) k) ≡ true → settleAs Lapsed s e ≡ lapseIf s e k
@@ -109,7 +130,9 @@ module _ (s : State) (e k : ℕ) where
   lapse-turn : (n : ℕ) → lapse (suc n) e s k ≡ lapse n (suc e) (lapseIf s e k) k
   lapse-turn n = go (isOpen (fateOf s e) && eqb (stepOf (s .plan) e) k) refl
     where
-      go : (b : Bool) → (isOpen (fateOf s e) && eqb (stepOf (s .plan) e) k) ≡ b → lapse (suc n) e s k ≡ lapse n (suc e) (lapseIf s e k) k
+      go : (b : Bool)
+          → (isOpen (fateOf s e) && eqb (stepOf (s .plan) e) k) ≡ b
+          → lapse (suc n) e s k ≡ lapse n (suc e) (lapseIf s e k) k
       go true h = lapse-yes n e s k h ∙ ap (λ (t : State). lapse n (suc e) t k) (lapses h)
       go false h = lapse-no n e s k h ∙ ap (λ (t : State). lapse n (suc e) t k) (stays h)
 
@@ -118,7 +141,10 @@ pub lapse-zero : (n : ℕ) (s : State) (k : ℕ) → lapse (n - 0) 0 s k ≡ lap
 lapse-zero n s k = rw (sub-zero n)
 
 -- one event less
-pub lapse-next : (n e : ℕ) (s t : State) (k : ℕ) → e < n → t ≡ lapseIf s e k → lapse (n - (e + 1)) (e + 1) t k ≡ lapse (n - e) e s k
+pub lapse-next : (n e : ℕ) (s t : State) (k : ℕ)
+    → e < n
+    → t ≡ lapseIf s e k
+    → lapse (n - (e + 1)) (e + 1) t k ≡ lapse (n - e) e s k
 lapse-next n e s t k lt same =
     let more : n - e ≡ suc (n - (e + 1)) = omega arith in
     rw (more, lapse-turn s e k (n - (e + 1)), same, add-one e)
@@ -164,7 +190,10 @@ module _ (s : State) where
     submit-known u = row-miss (leb (eventCount (s .plan)) e) Unknown [] (lt-leb _ _ u) ∙ rows-none
 
     -- what handing in gives
-    pub submit-reply : (t : State) (x : Fate) → t ≡ submit s e → x ≡ fateOf t e → _≡_ {A = Reply} (record { answer = Is x; state = t }) (accept s (Submit e))
+    pub submit-reply : (t : State) (x : Fate)
+        → t ≡ submit s e
+        → x ≡ fateOf t e
+        → _≡_ {A = Reply} (record { answer = Is x; state = t }) (accept s (Submit e))
     unfolding accept
     submit-reply t x same fate =
         ap {B = Reply} (λ (y : Fate). record { answer = Is y; state = t }) fate
@@ -174,16 +203,21 @@ module _ (s : State) where
     pub close-unknown : hasEvent (s .plan) k ≡ false → firstFault (callRows s (Close k)) ≡ some Unknown
     close-unknown u = row-hit (not (hasEvent (s .plan) k)) Unknown ((closedAt s k, AlreadyClosed) ∷ []) (ap not u)
 
-    known : hasEvent (s .plan) k ≡ true → firstFault (callRows s (Close k)) ≡ firstFault ((closedAt s k, AlreadyClosed) ∷ [])
+    known : hasEvent (s .plan) k ≡ true
+        → firstFault (callRows s (Close k)) ≡ firstFault ((closedAt s k, AlreadyClosed) ∷ [])
     known u = row-miss (not (hasEvent (s .plan) k)) Unknown ((closedAt s k, AlreadyClosed) ∷ []) (ap not u)
 
-    pub close-again : hasEvent (s .plan) k ≡ true → closedAt s k ≡ true → firstFault (callRows s (Close k)) ≡ some AlreadyClosed
+    pub close-again : hasEvent (s .plan) k ≡ true
+        → closedAt s k ≡ true
+        → firstFault (callRows s (Close k)) ≡ some AlreadyClosed
     close-again u a = known u ∙ row-hit (closedAt s k) AlreadyClosed [] a
 
     pub close-known : hasEvent (s .plan) k ≡ true → closedAt s k ≡ false → firstFault (callRows s (Close k)) ≡ none
     close-known u a = known u ∙ row-miss (closedAt s k) AlreadyClosed [] a ∙ rows-none
 
-    pub close-reply : (t : State) → t ≡ closeStep s k → _≡_ {A = Reply} (record { answer = Made; state = t }) (accept s (Close k))
+    pub close-reply : (t : State)
+        → t ≡ closeStep s k
+        → _≡_ {A = Reply} (record { answer = Made; state = t }) (accept s (Close k))
     unfolding accept
     close-reply t same = ap {B = Reply} (λ (w : State). record { answer = Made; state = w }) same
 
@@ -193,6 +227,8 @@ module _ (s : State) where
   pub finish-closed : anyBelow 8 (unclosedAt s) ≡ false → firstFault (callRows s Finish) ≡ none
   finish-closed u = row-miss (anyBelow 8 (unclosedAt s)) NotClosed [] u ∙ rows-none
 
-  pub finish-reply : (t : State) → t ≡ finish s → _≡_ {A = Reply} (record { answer = Made; state = t }) (accept s Finish)
+  pub finish-reply : (t : State)
+      → t ≡ finish s
+      → _≡_ {A = Reply} (record { answer = Made; state = t }) (accept s Finish)
   unfolding accept
   finish-reply t same = ap {B = Reply} (λ (w : State). record { answer = Made; state = w }) same

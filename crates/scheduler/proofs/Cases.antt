@@ -1,4 +1,5 @@
--- The marked cases of document 01 and further rows, in one joint proof over a list, by computation. Bytes are written in decimal.
+-- The marked cases of document 01 and further rows, in one joint proof over a list, by computation. Bytes are written
+-- in decimal.
 use Prim.Native.Nat.{ℕ, zero, suc}
 use mathlib.Core.Bool.{Bool, true, false}
 use mathlib.Core.List.{List, [], _∷_, _++_, map}
@@ -23,7 +24,8 @@ use Rattle.plan.specs.Calls.{decodeUpTo, firstCall, firstCall, decode}
 use Rattle.scheduler.specs.Runner.{runOn, runOf, digits, decimal, historyLines, report}
 use Rattle.scheduler.specs.Lists.{scheduler, after, turnedDown}
 
--- what a sheet and a list of calls come to: the sheet's fault and its offset, or the answers, the history, and for each rule whether it is recorded as broken
+-- what a sheet and a list of calls come to: the sheet's fault and its offset, or the answers, the history, and for
+-- each rule whether it is recorded as broken
 pub data Given : Type 0 where
   rejected : ℕ → ℕ → Given
   ran : List Answer → List (ℕ × Fate) → List Bool → Given
@@ -36,7 +38,12 @@ abbrev pub givenBy : State → List Answer → Given
 givenBy s answers = ran answers (map (λ l. (l .event, l .fate)) (lines s)) (take (ruleCount (s .plan)) (s .broken))
 
 unfoldable pub given : List ℕ → List Call → Given
-given b cs = let r = readSheet b in elim (r .verdict) [ Faulty f at ↦ rejected (sheetFaultNumber f) at | Admitted ↦ givenBy (after scheduler (r .state) cs) (answersOf (r .state) cs) ]
+given b cs =
+    let r = readSheet b in
+    elim (r .verdict) [
+      | Faulty f at ↦ rejected (sheetFaultNumber f) at
+      | Admitted ↦ givenBy (after scheduler (r .state) cs) (answersOf (r .state) cs)
+    ]
 
 -- a row: the sheet, the calls, what they give
 abbrev pub Case : Type 0
@@ -127,7 +134,8 @@ cases =
     ∷ (times 4 (1 ∷ 7 ∷ 6 ∷ []) ++ (2 ∷ 0 ∷ 1 ∷ 2 ∷ 1 ∷ 0 ∷ 2 ∷ 2 ∷ 3 ∷ 2 ∷ 3 ∷ 2 ∷ 5 ∷ []), Submit 0 ∷ Submit 1 ∷ Submit 2 ∷ Submit 3 ∷ Finish ∷ Close 7 ∷ Close 7 ∷ Finish ∷ [], ran (Is Held ∷ Is Held ∷ Is Held ∷ Is Held ∷ TurnedDown NotClosed ∷ Made ∷ TurnedDown AlreadyClosed ∷ Made ∷ []) ((0, Refused) ∷ (1, Done) ∷ (2, Refused) ∷ (3, Done) ∷ []) (replicate 4 false))
     -- an event that is not delayable goes by its own order before anything is settled: 1, 0, where A has 0, 1
     ∷ (1 ∷ 0 ∷ 6 ∷ 1 ∷ 0 ∷ 0 ∷ 3 ∷ 0 ∷ 1 ∷ 5 ∷ [], Submit 0 ∷ Submit 1 ∷ [], ran (Is Held ∷ Is Done ∷ []) ((1, Done) ∷ (0, Done) ∷ []) (false ∷ []))
-    -- a forced b that is delayable waits too (need 0, 1, order 2, 1): 0 is done alone. Its recorded rule owes no more: 3 is done
+    -- a forced b that is delayable waits too (need 0, 1, order 2, 1): 0 is done alone. Its recorded rule owes no
+    -- more: 3 is done
     ∷ (1 ∷ 0 ∷ 0 ∷ 1 ∷ 0 ∷ 7 ∷ 1 ∷ 0 ∷ 6 ∷ 1 ∷ 0 ∷ 6 ∷ 3 ∷ 0 ∷ 1 ∷ 2 ∷ 2 ∷ 1 ∷ 5 ∷ [], Submit 0 ∷ Submit 3 ∷ [], ran (Is Done ∷ Is Done ∷ []) ((0, Done) ∷ (3, Done) ∷ []) (true ∷ false ∷ []))
     -- the same: recorded still, though 1 is done at last and the rule holds again
     ∷ (1 ∷ 0 ∷ 0 ∷ 1 ∷ 0 ∷ 7 ∷ 1 ∷ 0 ∷ 6 ∷ 1 ∷ 0 ∷ 6 ∷ 3 ∷ 0 ∷ 1 ∷ 2 ∷ 2 ∷ 1 ∷ 5 ∷ [], Submit 0 ∷ Submit 2 ∷ Submit 1 ∷ [], ran (Is Done ∷ Is Done ∷ Is Done ∷ []) ((0, Done) ∷ (2, Done) ∷ (1, Done) ∷ []) (true ∷ false ∷ []))
@@ -140,7 +148,8 @@ cases =
     ∷ (1 ∷ 0 ∷ 2 ∷ 1 ∷ 0 ∷ 6 ∷ 1 ∷ 0 ∷ 6 ∷ 3 ∷ 0 ∷ 2 ∷ 2 ∷ 0 ∷ 1 ∷ 5 ∷ [], Submit 1 ∷ Submit 0 ∷ [], ran (Is Held ∷ Is Refused ∷ []) ((0, Refused) ∷ (1, Done) ∷ []) (false ∷ false ∷ []))
     -- a rule that neither forbade nor owed is not recorded
     ∷ (1 ∷ 0 ∷ 0 ∷ 1 ∷ 1 ∷ 1 ∷ 1 ∷ 0 ∷ 6 ∷ 3 ∷ 0 ∷ 1 ∷ 4 ∷ 0 ∷ 2 ∷ 1 ∷ 5 ∷ [], Close 1 ∷ Submit 0 ∷ [], ran (Made ∷ Is Done ∷ []) ((1, Lapsed) ∷ (0, Done) ∷ []) (true ∷ false ∷ []))
-    -- a need's b that is held is still owed: 1 waits for 2 (order 2, 1), so 0 (need 0, 1) is held, and goes by the order 0, 2, 1
+    -- a need's b that is held is still owed: 1 waits for 2 (order 2, 1), so 0 (need 0, 1) is held, and goes by the
+    -- order 0, 2, 1
     ∷ (1 ∷ 0 ∷ 6 ∷ 1 ∷ 0 ∷ 6 ∷ 1 ∷ 0 ∷ 6 ∷ 2 ∷ 2 ∷ 1 ∷ 3 ∷ 0 ∷ 1 ∷ 5 ∷ [], Submit 1 ∷ Submit 0 ∷ Submit 2 ∷ [], ran (Is Held ∷ Is Held ∷ Is Done ∷ []) ((0, Done) ∷ (2, Done) ∷ (1, Done) ∷ []) (false ∷ false ∷ []))
     -- so is a conditional's c: 2 waits for 3 (order 3, 2), so 1 (conditional 0, 1, 2) is held
     ∷ (1 ∷ 0 ∷ 6 ∷ 1 ∷ 0 ∷ 6 ∷ 1 ∷ 0 ∷ 6 ∷ 1 ∷ 0 ∷ 6 ∷ 2 ∷ 3 ∷ 2 ∷ 4 ∷ 0 ∷ 1 ∷ 2 ∷ 5 ∷ [], Submit 2 ∷ Submit 0 ∷ Submit 1 ∷ Submit 3 ∷ [], ran (Is Held ∷ Is Done ∷ Is Held ∷ Is Done ∷ []) ((0, Done) ∷ (1, Done) ∷ (3, Done) ∷ (2, Done) ∷ []) (false ∷ false ∷ []))
@@ -163,7 +172,8 @@ cases =
     -- 2: kind 0 and above 6, also as the last byte
     ∷ (0 ∷ 5 ∷ [], [], rejected 2 0)
     ∷ (6 ∷ 0 ∷ 7 ∷ [], [], rejected 2 2)
-    -- 3: the 17th event, by kinds 1 and 6, and the 17th rule; before its step or names are looked at, and not where it is cut
+    -- 3: the 17th event, by kinds 1 and 6, and the 17th rule; before its step or names are looked at, and not where
+    -- it is cut
     ∷ (sixteenEvents ++ (5 ∷ []), [], ran [] [] [])
     ∷ (sixteenEvents ++ (1 ∷ 9 ∷ 9 ∷ []), [], rejected 3 8)
     ∷ (sixteenEvents ++ (1 ∷ 9 ∷ []), [], rejected 1 8)
@@ -190,7 +200,8 @@ cases =
     ∷ (6 ∷ 0 ∷ 4 ∷ 0 ∷ 2 ∷ 0 ∷ 5 ∷ [], [], rejected 6 2)
     ∷ (6 ∷ 0 ∷ 4 ∷ 0 ∷ 2 ∷ 2 ∷ 5 ∷ [], [], rejected 6 2)
     ∷ (1 ∷ 0 ∷ 1 ∷ 3 ∷ 0 ∷ 1 ∷ 5 ∷ [], [], rejected 6 3)
-    -- 7: order with b delayable; with a rejectable; with b rejectable alone; conditional with a, b or c, and with none
+    -- 7: order with b delayable; with a rejectable; with b rejectable alone; conditional with a, b or c, and with
+    -- none
     ∷ (1 ∷ 0 ∷ 0 ∷ 1 ∷ 0 ∷ 6 ∷ 2 ∷ 0 ∷ 1 ∷ 5 ∷ [], [], ran [] [] (false ∷ []))
     ∷ (1 ∷ 0 ∷ 2 ∷ 1 ∷ 0 ∷ 0 ∷ 2 ∷ 0 ∷ 1 ∷ 5 ∷ [], [], ran [] [] (false ∷ []))
     ∷ (1 ∷ 0 ∷ 1 ∷ 1 ∷ 0 ∷ 2 ∷ 2 ∷ 0 ∷ 1 ∷ 5 ∷ [], [], rejected 7 6)
@@ -203,10 +214,18 @@ cases =
 
 -- a plan with these counts, otherwise empty, and s with n lines
 abbrev pub counting : ℕ → ℕ → Plan
-counting events rules = record { events = emptyPlan .events; «event_count» = events; rules = emptyPlan .rules; «rule_count» = rules }
+counting events rules =
+    record { events = emptyPlan .events; «event_count» = events; rules = emptyPlan .rules; «rule_count» = rules }
 
 abbrev pub withLines : ℕ → State → State
-withLines n s = record { plan = s .plan; standings = s .standings; broken = s .broken; closed = s .closed; history = s .history; «history_len» = n }
+withLines n s = record {
+  plan = s .plan;
+  standings = s .standings;
+  broken = s .broken;
+  closed = s .closed;
+  history = s .history;
+  «history_len» = n;
+}
 
 abbrev pub firstOn : List ℕ → State
 firstOn b = readSheet b .state
@@ -234,7 +253,8 @@ brought =
     ∷ (firstState (addEvent emptyPlan 0 4), Submit 0 ∷ [], TurnedDown Incoherent ∷ [])
     ∷ (firstState (addRule (addEvent emptyPlan 0 7) (Need 0 0)), Submit 0 ∷ [], TurnedDown Incoherent ∷ [])
     ∷ (firstState (addRule (addEvent (addEvent emptyPlan 0 1) 0 6) (Need 0 1)), Submit 0 ∷ [], TurnedDown Incoherent ∷ [])
-    -- the history names an undeclared event, leaves a settled one out, has one twice, has one that is not settled, has another fate
+    -- the history names an undeclared event, leaves a settled one out, has one twice, has one that is not settled,
+    -- has another fate
     ∷ (settleAs Done emptyState 0, Finish ∷ [], TurnedDown Incoherent ∷ [])
     ∷ (withLines 0 (settleAs Done (firstOn sheetG) 1), Submit 0 ∷ [], TurnedDown Incoherent ∷ [])
     ∷ (settleAs Done (settleAs Done (firstOn sheetG) 1) 1, Submit 0 ∷ [], TurnedDown Incoherent ∷ [])
@@ -325,6 +345,8 @@ unfolding given answersOf tabulate anyBelow allBelow firstOf lowest hold settleA
 marked = (refl, refl, refl)
 
 -- 0, 7, 10, 65536
-pub decimals : map decimal (0 ∷ 7 ∷ 10 ∷ 65536 ∷ []) ≡ (48 ∷ []) ∷ (55 ∷ []) ∷ (49 ∷ 48 ∷ []) ∷ (54 ∷ 53 ∷ 53 ∷ 51 ∷ 54 ∷ []) ∷ []
+pub decimals :
+    map decimal (0 ∷ 7 ∷ 10 ∷ 65536 ∷ [])
+    ≡ (48 ∷ []) ∷ (55 ∷ []) ∷ (49 ∷ 48 ∷ []) ∷ (54 ∷ 53 ∷ 53 ∷ 51 ∷ 54 ∷ []) ∷ []
 unfolding digits decimal
 decimals = refl

@@ -23,7 +23,8 @@ eventTest events standings closed history len e =
     && not (isHeld (fatesOf standings e) && not (holdsBit 4 (readAt 16 events e blankEvent .attributes)))
     && not (isOpen (fatesOf standings e) && readAt 8 closed (readAt 16 events e blankEvent .step) false)
 
-pub event-test : (s : State) (e : ℕ) → eventTest (s .plan .events) (s .standings) (s .closed) (s .history) (lineCount s) e ≡ coherentEvent s e
+pub event-test : (s : State) (e : ℕ)
+    → eventTest (s .plan .events) (s .standings) (s .closed) (s .history) (lineCount s) e ≡ coherentEvent s e
 unfolding coherentEvent soundEvent
 event-test s e = refl
 
@@ -32,7 +33,8 @@ ruleTest p count standings history len broken r =
     (named count r && enforceable p r)
     && (broken || (not (owes p (fatesOf standings) r) && holds (take len history) r))
 
-pub rule-test : (s : State) (i : ℕ) → ruleTest (s .plan) (eventCount (s .plan)) (s .standings) (s .history) (lineCount s) (brokenAt s i) (ruleAt (s .plan) i) ≡ coherentRule s i
+pub rule-test : (s : State) (i : ℕ)
+    → ruleTest (s .plan) (eventCount (s .plan)) (s .standings) (s .history) (lineCount s) (brokenAt s i) (ruleAt (s .plan) i) ≡ coherentRule s i
 unfolding coherentRule soundRule
 rule-test s i = refl
 
@@ -59,6 +61,9 @@ module _ (s : State) where
   unfolding coherent
   events-fail f d h = rw (not-false few f, not-false declared d, not-true events h)
 
-  pub rules-decide : not few ≡ false → not declared ≡ false → not events ≡ false → coherent s ≡ allBelow (ruleCount (s .plan)) (coherentRule s)
+  pub rules-decide : not few ≡ false
+      → not declared ≡ false
+      → not events ≡ false
+      → coherent s ≡ allBelow (ruleCount (s .plan)) (coherentRule s)
   unfolding coherent
   rules-decide f d h = rw (not-false few f, not-false declared d, not-false events h)

@@ -58,7 +58,8 @@ settle-trail c s z = turns-trail (settle-turns s z)
 -- an event that isn't delayable, just held: the order contains it, so it stands in the array and is held
 module _ (s : State) (e : ℕ) (z : Sized s) where
   order-trail : (o : List ℕ) → First (hold s e) e o → Trail (Submit e) (hold s e) (doAll (hold s e) o)
-  order-trail o f = ordered e o (fate-hold-same s e z (run-declared (hold s e) o (f .viable .runs) e (f .viable .contains) .1)) f end
+  order-trail o f =
+      ordered e o (fate-hold-same s e z (run-declared (hold s e) o (f .viable .runs) e (f .viable .contains) .1)) f end
 
   decide-trail : delayable (s .plan) e ≡ false → Trail (Submit e) (hold s e) (settle (decide (hold s e) e))
   decide-trail d = go (chosen t e) refl (either (rejectable (t .plan) e))
@@ -75,10 +76,20 @@ module _ (s : State) (e : ℕ) (z : Sized s) where
       waits : delayable (t .plan) e ≡ false
       waits = ap (λ (p : Plan). delayable p e) (plan-hold s e) ∙ d
 
-      go : (q : Option (List ℕ)) → chosen t e ≡ q → (rejectable (t .plan) e ≡ true) ⊎ (rejectable (t .plan) e ≡ false) → Trail (Submit e) t (settle (decide t e))
-      go (some o) h r = at (doAll t o) (decide-order t e o h) (sized-doAll t o sized) (order-trail o (chosen-first t e sized o h))
-      go none h (inl r) = at (settleAs Refused t e) (decide-refuse t e h r) (sized-settle Refused t e sized) (refused e (by-submission refl waits r (chosen-none t e h)) end)
-      go none h (inr r) = at (doAlone t e) (decide-alone t e h r) (sized-alone t e sized) (alone e refl waits r (chosen-none t e h) end)
+      go : (q : Option (List ℕ))
+          → chosen t e ≡ q
+          → (rejectable (t .plan) e ≡ true) ⊎ (rejectable (t .plan) e ≡ false)
+          → Trail (Submit e) t (settle (decide t e))
+      go (some o) h r =
+          at (doAll t o) (decide-order t e o h) (sized-doAll t o sized) (order-trail o (chosen-first t e sized o h))
+      go none h (inl r) =
+          at
+          (settleAs Refused t e)
+          (decide-refuse t e h r)
+          (sized-settle Refused t e sized)
+          (refused e (by-submission refl waits r (chosen-none t e h)) end)
+      go none h (inr r) =
+          at (doAlone t e) (decide-alone t e h r) (sized-alone t e sized) (alone e refl waits r (chosen-none t e h) end)
 
 -- hand in
 submit-trail : (s : State) (e : ℕ) → Sized s → Trail (Submit e) s (submit s e)
@@ -117,7 +128,10 @@ unfolding refuseHeld
 refuse-trail zero s z rest = end
 refuse-trail (suc n) s z rest = go (lowestHeld s) refl (refuse-trail n)
   where
-    go : (q : Option ℕ) → lowestHeld s ≡ q → ((t : State) → Sized t → settleOnce t ≡ none → Trail Finish t (refuseHeld n t)) → Trail Finish s (refuseHeld (suc n) s)
+    go : (q : Option ℕ)
+        → lowestHeld s ≡ q
+        → ((t : State) → Sized t → settleOnce t ≡ none → Trail Finish t (refuseHeld n t))
+        → Trail Finish s (refuseHeld (suc n) s)
     go none h rec = subst (Trail Finish s) (sym (refuse-none n s h)) end
     go (some e) h rec =
         let t = settleAs Refused s e in

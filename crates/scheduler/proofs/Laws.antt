@@ -10,11 +10,12 @@ use mathlib.Core.Logic.{_≢_, _⊎_, inl, inr}
 use mathlib.Core.Path.{_≡_, refl, sym, _∙_, ap}
 use lib.ListN.{getD}
 use lib.Seq.{take-suc-set}
-use Rattle.scheduler.specs.Prelude.{Fate, Open, Held, Standing, State}
-use Rattle.plan.specs.Fates.{blankStanding}
+use Rattle.scheduler.specs.Prelude.{Fate, Open, Held, Done, Standing, State}
+use Rattle.plan.specs.Fates.{isSettled, blankStanding}
 use Rattle.plan.specs.Histories.{blankEntry}
 use Rattle.scheduler.specs.State.{fateOf, brokenAt, closedAt, lineCount, lines, hold, settleAs, shut, breakRule, Sized}
 use Rattle.plan.proofs.Arrays.{read-past, read-other, get-other, length-store, read-same}
+use Rattle.scheduler.specs.Orders.{doOne}
 
 -- past an array's end stands the blank
 pub fate-past : (s : State) (e : ℕ) → 16 ≤ e → fateOf s e ≡ Open
@@ -36,34 +37,64 @@ module _ (x : Fate) (s : State) (e : ℕ) where
 
   pub fate-settle-same : Sized s → e < 16 → fateOf (settleAs x s e) e ≡ x
   unfolding settleAs
-  fate-settle-same z lt = ap (λ (v : Standing). v .fate) (read-same 16 (s .standings) e (record { fate = x }) blankStanding (omega (arith, z .standings-len)))
+  fate-settle-same z lt =
+      ap
+      (λ (v : Standing). v .fate)
+      (read-same 16 (s .standings) e (record { fate = x }) blankStanding (omega (arith, z .standings-len)))
 
   pub fate-settle-other : (j : ℕ) → j ≢ e → fateOf (settleAs x s e) j ≡ fateOf s j
   unfolding settleAs
-  fate-settle-other j ne = ap (λ (v : Standing). v .fate) (read-other 16 (s .standings) e (record { fate = x }) blankStanding j ne)
+  fate-settle-other j ne =
+      ap (λ (v : Standing). v .fate) (read-other 16 (s .standings) e (record { fate = x }) blankStanding j ne)
 
   pub sized-settle : Sized s → Sized (settleAs x s e)
   unfolding settleAs
-  sized-settle z = record { standings-len = length-store 16 (s .standings) e (record { fate = x }) ∙ z .standings-len; broken-len = z .broken-len; closed-len = z .closed-len; history-len = length-store 16 (s .history) (lineCount s) (record { event = e; fate = x }) ∙ z .history-len }
+  sized-settle z = record {
+    standings-len = length-store 16 (s .standings) e (record { fate = x }) ∙ z .standings-len;
+    broken-len = z .broken-len;
+    closed-len = z .closed-len;
+    history-len = length-store 16 (s .history) (lineCount s) (record { event = e; fate = x }) ∙ z .history-len;
+  }
 
   pub len-settle : lineCount s < 16 → lineCount (settleAs x s e) ≡ lineCount s + 1
   unfolding settleAs
   len-settle lt = rw (lt-ltb (lineCount s) 16 lt)
 
-  pub line-settle-other : (i : ℕ) → i ≢ lineCount s → getD ((settleAs x s e) .history) i blankEntry ≡ getD (s .history) i blankEntry
+  pub line-settle-other : (i : ℕ)
+      → i ≢ lineCount s
+      → getD ((settleAs x s e) .history) i blankEntry ≡ getD (s .history) i blankEntry
   unfolding settleAs
   line-settle-other i ne = get-other 16 (s .history) (lineCount s) (record { event = e; fate = x }) blankEntry i ne
 
-  pub lines-settle : Sized s → lineCount s < 16 → lines (settleAs x s e) ≡ lines s ++ (record { event = e; fate = x } ∷ [])
+  pub lines-settle : Sized s
+      → lineCount s < 16
+      → lines (settleAs x s e) ≡ lines s ++ (record { event = e; fate = x } ∷ [])
   unfolding settleAs
-  lines-settle z lt = rw (lt-ltb (lineCount s) 16 lt, add-one) (take-suc-set (s .history) (lineCount s) (record { event = e; fate = x }) (omega (arith, z .history-len)))
+  lines-settle z lt =
+      rw (lt-ltb (lineCount s) 16 lt, add-one) (take-suc-set (s .history) (lineCount s) (record { event = e; fate = x }) (omega (arith, z .history-len)))
 
 -- every event has its old fate or, if it is the one settled, may have the new one
-pub fate-settle-either : (x : Fate) (s : State) (e j : ℕ) → Sized s → (fateOf (settleAs x s e) j ≡ x) ⊎ (fateOf (settleAs x s e) j ≡ fateOf s j)
+pub fate-settle-either : (x : Fate) (s : State) (e j : ℕ)
+    → Sized s
+    → (fateOf (settleAs x s e) j ≡ x) ⊎ (fateOf (settleAs x s e) j ≡ fateOf s j)
 fate-settle-either x s e j z = elim (ℕ-discrete j e) [
   | no ne ↦ inr (fate-settle-other x s e j ne)
   | yes q ↦ elim (decLt e 16) [ yes lt ↦ inl (rw q (fate-settle-same x s e z lt)) | no ge ↦ inr (fate-past (settleAs x s e) j (omega arith) ∙ sym (fate-past s j (omega arith))) ]
 ]
+
+-- one event of an order is done: what those who run orders use
+module _ (s : State) (c : ℕ) where
+  pub plan-one : (doOne s c) .plan ≡ s .plan
+  plan-one = plan-settle Done s c
+
+  pub sized-one : Sized s → Sized (doOne s c)
+  sized-one z = sized-settle Done s c z
+
+  pub one-settled : Sized s → c < 16 → isSettled (fateOf (doOne s c) c) ≡ true
+  one-settled z lt = ap isSettled (fate-settle-same Done s c z lt)
+
+  pub settled-one : (e : ℕ) → Sized s → isSettled (fateOf s e) ≡ true → isSettled (fateOf (doOne s c) e) ≡ true
+  settled-one e z h = elim (fate-settle-either Done s c e z) [ inl d ↦ ap isSettled d | inr q ↦ ap isSettled q ∙ h ]
 
 -- an event is held
 module _ (s : State) (e : ℕ) where
@@ -93,15 +124,24 @@ module _ (s : State) (e : ℕ) where
 
   pub fate-hold-same : Sized s → e < 16 → fateOf (hold s e) e ≡ Held
   unfolding hold
-  fate-hold-same z lt = ap (λ (v : Standing). v .fate) (read-same 16 (s .standings) e (record { fate = Held }) blankStanding (omega (arith, z .standings-len)))
+  fate-hold-same z lt =
+      ap
+      (λ (v : Standing). v .fate)
+      (read-same 16 (s .standings) e (record { fate = Held }) blankStanding (omega (arith, z .standings-len)))
 
   pub fate-hold-other : (j : ℕ) → j ≢ e → fateOf (hold s e) j ≡ fateOf s j
   unfolding hold
-  fate-hold-other j ne = ap (λ (v : Standing). v .fate) (read-other 16 (s .standings) e (record { fate = Held }) blankStanding j ne)
+  fate-hold-other j ne =
+      ap (λ (v : Standing). v .fate) (read-other 16 (s .standings) e (record { fate = Held }) blankStanding j ne)
 
   pub sized-hold : Sized s → Sized (hold s e)
   unfolding hold
-  sized-hold z = record { standings-len = length-store 16 (s .standings) e (record { fate = Held }) ∙ z .standings-len; broken-len = z .broken-len; closed-len = z .closed-len; history-len = z .history-len }
+  sized-hold z = record {
+    standings-len = length-store 16 (s .standings) e (record { fate = Held }) ∙ z .standings-len;
+    broken-len = z .broken-len;
+    closed-len = z .closed-len;
+    history-len = z .history-len;
+  }
 
 -- a step is closed
 module _ (s : State) (k : ℕ) where
@@ -139,7 +179,12 @@ module _ (s : State) (k : ℕ) where
 
   pub sized-shut : Sized s → Sized (shut s k)
   unfolding shut
-  sized-shut z = record { standings-len = z .standings-len; broken-len = z .broken-len; closed-len = length-store 8 (s .closed) k true ∙ z .closed-len; history-len = z .history-len }
+  sized-shut z = record {
+    standings-len = z .standings-len;
+    broken-len = z .broken-len;
+    closed-len = length-store 8 (s .closed) k true ∙ z .closed-len;
+    history-len = z .history-len;
+  }
 
 -- a rule is recorded as broken
 module _ (s : State) (i : ℕ) where
@@ -177,4 +222,9 @@ module _ (s : State) (i : ℕ) where
 
   pub sized-break : Sized s → Sized (breakRule s i)
   unfolding breakRule
-  sized-break z = record { standings-len = z .standings-len; broken-len = length-store 16 (s .broken) i true ∙ z .broken-len; closed-len = z .closed-len; history-len = z .history-len }
+  sized-break z = record {
+    standings-len = z .standings-len;
+    broken-len = length-store 16 (s .broken) i true ∙ z .broken-len;
+    closed-len = z .closed-len;
+    history-len = z .history-len;
+  }

@@ -1,3 +1,4 @@
+-- Lemmas over the definitions of `scheduler`, lowest first; the marked cases last.
 pub mod Laws
 pub mod CoherentTests
 pub mod Branches

@@ -10,20 +10,21 @@ use mathlib.Core.Path.{_≡_, refl, sym, _∙_, ap}
 use lib.Dec.{eqb}
 use lib.ListN.{length, getD, set, replicate}
 use Rattle.scheduler.specs.declared.order.Found.{Found}
-use Rattle.scheduler.specs.Prelude.{Done, Plan, RuleLine, Rule, Standing, State}
+use Rattle.scheduler.specs.Prelude.{take, Plan, RuleLine, Rule, Standing, State}
 use Rattle.plan.specs.Base.{firstOf, when, tabulate, readAt}
 use Rattle.plan.specs.Plans.{blankRule, eventCount}
-use Rattle.scheduler.specs.State.{fateOf, settleAs}
+use Rattle.scheduler.specs.State.{fateOf}
 use Rattle.scheduler.specs.Rules.{forbidden, owing}
 use Rattle.plan.specs.Rules.{bars, forbids, owes, ready}
-use Rattle.scheduler.specs.Orders.{mayDo, orderOf, chosen, noOrder, foundOrder}
+use Rattle.scheduler.specs.Orders.{doOne, mayDo, orderOf, chosen, noOrder, foundOrder}
 use Rattle.scheduler.specs.Internal.Placed.{placed, foundFrom}
 use Rattle.plan.proofs.Tests.{clash}
-use Rattle.scheduler.proofs.Searching.{order-some}
+use Rattle.scheduler.proofs.Searching.{every, order-some}
 use Rattle.plan.specs.Fates.{fatesOf}
 use Rattle.plan.proofs.Loops.{first-next, first-end, first-here}
 
--- the tests of the rule in place i, over the parts that the loops hold and any plan: with a state's own they are its tests
+-- the tests of the rule in place i, over the parts that the loops hold and any plan: with a state's own they are its
+-- tests
 abbrev pub ruleIn : List RuleLine → ℕ → Rule
 ruleIn rules i = readAt 16 rules i blankRule .rule
 
@@ -49,35 +50,42 @@ module _ (s : State) (e : ℕ) (is : Bool) (same : is ≡ ready (s .plan) (fateO
   unfolding mayDo ready
   may-not t = rw (sym same ∙ t)
 
--- an answer that has no order, and one that has
+-- an answer that has no order, and one that has, for each way in which code hands an order over
+module _ (f : Option (List ℕ) → Found) (no : f none .ok ≡ false) (yes : (o : List ℕ) → f (some o) .ok ≡ true) where
+  pub answer-none : (q : Option (List ℕ)) (r : Found) → r ≡ f q → r .ok ≡ false → q ≡ none
+  answer-none none r same t = refl
+  answer-none (some o) r same t = absurd (clash (ap (λ (w : Found). w .ok) same ∙ yes o) t)
+
+  pub answer-some : (q : Option (List ℕ)) (r : Found) → r ≡ f q → r .ok ≡ true → (o : List ℕ) × (q ≡ some o)
+  answer-some none r same t = absurd (clash t (ap (λ (w : Found). w .ok) same ∙ no))
+  answer-some (some o) r same t = (o, refl)
+
 found-none : (i : ℕ) (q : Option (List ℕ)) (r : Found) → r ≡ foundFrom i q → r .ok ≡ false → q ≡ none
 unfolding foundFrom
-found-none i none r same f = refl
-found-none i (some o) r same f = absurd (clash (ap (λ (w : Found). w .ok) same) f)
+found-none i = answer-none (foundFrom i) refl (λ o. refl)
 
 found-some : (i : ℕ) (q : Option (List ℕ)) (r : Found) → r ≡ foundFrom i q → r .ok ≡ true → (o : List ℕ) × (q ≡ some o)
 unfolding foundFrom
-found-some i none r same t = absurd (clash t (ap (λ (w : Found). w .ok) same))
-found-some i (some o) r same t = (o, refl)
+found-some i = answer-some (foundFrom i) refl (λ o. refl)
 
 guard-none : {A : Type 0} (b : Bool) → when {A = A} b none ≡ none
 guard-none true = refl
 guard-none false = refl
 
--- the search: every event is a candidate
-abbrev every : ℕ → Bool
-every c = true
-
 -- the first order of k + 1 events whose first event is c
 abbrev pub orderBy : ℕ → State → ℕ → Bool → ℕ → Option (List ℕ)
-orderBy k s e had c = when (mayDo s c) (Option·map (λ o. c ∷ o) (orderOf every k (settleAs Done s c) e (had || eqb c e)))
+orderBy k s e had c =
+    when (mayDo s c) (Option·map (λ o. c ∷ o) (orderOf every k (doOne s c) e (had || eqb c e)))
 
 module _ (s : State) (e : ℕ) (had : Bool) where
   -- no place is left: the order ends here if it has e and no rule owes
   module _ (at p : ℕ) (no-place : p ≡ 0) where
-    pub end-found : had ≡ true → owing s ≡ false → _≡_ {A = Found} (record { ok = true; events = replicate 6 0; len = at }) (foundFrom at (orderOf every p s e had))
+    pub end-found : had ≡ true
+        → owing s ≡ false
+        → _≡_ {A = Found} (record { ok = true; events = replicate 6 0; len = at }) (foundFrom at (orderOf every p s e had))
     unfolding orderOf foundFrom placed
-    end-found h o = rw (no-place, h, o) (ap {B = Found} (λ (n : ℕ). record { ok = true; events = replicate 6 0; len = n }) (omega arith))
+    end-found h o =
+        rw (no-place, h, o) (ap {B = Found} (λ (n : ℕ). record { ok = true; events = replicate 6 0; len = n }) (omega arith))
 
     pub end-owing : owing s ≡ true → noOrder ≡ foundFrom at (orderOf every p s e had)
     unfolding orderOf foundFrom
@@ -102,7 +110,7 @@ module _ (s : State) (e : ℕ) (had : Bool) where
     left-none at x before ge = ap (foundFrom at) (sym (before ∙ first-end _ x _ ge))
 
     abbrev after : ℕ → Option (List ℕ)
-    after x = orderOf every (p - 1) (settleAs Done s x) e (had || eqb x e)
+    after x = orderOf every (p - 1) (doOne s x) e (had || eqb x e)
 
     module _ (x : ℕ) (lt : x < eventCount (s .plan)) (before : Left p x) where
       pub skip : mayDo s x ≡ false → Left p (x + 1)
@@ -113,7 +121,10 @@ module _ (s : State) (e : ℕ) (had : Bool) where
         miss f = before ∙ first-next _ x _ lt (rw (found-none (at + 1) (after x) r same f) (guard-none (mayDo s x)))
 
         abbrev Put : Type 0
-        Put = _≡_ {A = Found} (record { ok = r .ok; events = set (r .events) at x; len = r .len }) (foundFrom at (orderOf every p s e had))
+        Put =
+            _≡_ {A = Found}
+            (record { ok = r .ok; events = set (r .events) at x; len = r .len })
+            (foundFrom at (orderOf every p s e had))
 
         hit-with : (o : List ℕ) → after x ≡ some o → mayDo s x ≡ true → Put
         unfolding foundFrom placed
@@ -126,23 +137,27 @@ module _ (s : State) (e : ℕ) (had : Bool) where
         pub hit : mayDo s x ≡ true → r .ok ≡ true → Put
         hit m t = let f = found-some (at + 1) (after x) r same t in hit-with (f .0) (f .1) m
 
--- an order's events from the front
-placed-all : (o : List ℕ) → length o ≤ 6 → placed 0 o ≡ tabulate 6 0 (λ i. getD o i 0)
+-- an order of at most six events: in the search's array it stands as it is handed over, whole at the front
+pub record Fits (o : List ℕ) : Type 0 where
+  pub placed-whole : placed 0 o ≡ tabulate 6 0 (λ i. getD o i 0)
+  pub front-whole : take (length o) (tabulate 6 0 (λ i. getD o i 0)) ≡ o
+
+pub fits : (o : List ℕ) → length o ≤ 6 → Fits o
 unfolding placed tabulate
-placed-all [] h = refl
-placed-all (a ∷ []) h = refl
-placed-all (a ∷ b ∷ []) h = refl
-placed-all (a ∷ b ∷ c ∷ []) h = refl
-placed-all (a ∷ b ∷ c ∷ d ∷ []) h = refl
-placed-all (a ∷ b ∷ c ∷ d ∷ e ∷ []) h = refl
-placed-all (a ∷ b ∷ c ∷ d ∷ e ∷ f ∷ []) h = refl
-placed-all (a ∷ b ∷ c ∷ d ∷ e ∷ f ∷ g ∷ o) h = absurd (omega arith)
+fits [] h = record { placed-whole = refl; front-whole = refl }
+fits (a ∷ []) h = record { placed-whole = refl; front-whole = refl }
+fits (a ∷ b ∷ []) h = record { placed-whole = refl; front-whole = refl }
+fits (a ∷ b ∷ c ∷ []) h = record { placed-whole = refl; front-whole = refl }
+fits (a ∷ b ∷ c ∷ d ∷ []) h = record { placed-whole = refl; front-whole = refl }
+fits (a ∷ b ∷ c ∷ d ∷ e ∷ []) h = record { placed-whole = refl; front-whole = refl }
+fits (a ∷ b ∷ c ∷ d ∷ e ∷ f ∷ []) h = record { placed-whole = refl; front-whole = refl }
+fits (a ∷ b ∷ c ∷ d ∷ e ∷ f ∷ g ∷ o) h = absurd (omega arith)
 
 found-all : (o : List ℕ) → length o ≤ 6 → foundFrom 0 (some o) ≡ foundOrder (some o)
 unfolding foundFrom foundOrder
 found-all o h =
     let len : 0 + length o ≡ length o = omega arith in
-    rw (placed-all o h, len)
+    rw (fits o h .placed-whole, len)
 
 -- the loop over the lengths: what is left of it from k on
 module _ (s : State) (e : ℕ) where

@@ -12,13 +12,13 @@ use lib.Dec.{eqb}
 use lib.ListN.{length}
 use Rattle.scheduler.specs.Prelude.{Fate, Open, Held, Done, Refused, Lapsed, Event, Plan, State}
 use Rattle.plan.specs.Plans.{eventCount, eventAt, blankEvent, holdsBit, forcible}
-use Rattle.scheduler.specs.State.{fateOf, settleAs, Sized}
+use Rattle.scheduler.specs.State.{fateOf, Sized}
 use Rattle.plan.specs.Fates.{isOpen, isHeld, isSettled}
 use Rattle.scheduler.specs.Rules.{forbidden, owing}
 use Rattle.plan.specs.Rules.{ready}
-use Rattle.scheduler.specs.Orders.{mayDo, doAll, Runs, Different, Viable, Ahead, First, orderOf, chosen, someOrder, hasViable}
+use Rattle.scheduler.specs.Orders.{doOne, mayDo, doAll, Runs, Different, Viable, Ahead, First, orderOf, chosen, someOrder, hasViable}
 use Rattle.plan.proofs.Tests.{or-right-true, or-either, and-left, and-right, and-both, either, clash, any-some, any-found, first-none, first-some, when-none, when-some, some-none}
-use Rattle.scheduler.proofs.Laws.{fate-past, plan-settle, fate-settle-same, fate-settle-either, sized-settle}
+use Rattle.scheduler.proofs.Laws.{plan-one, one-settled, settled-one, sized-one, fate-past}
 
 -- an event that may be done is unsettled, and past the array there is none: the blank event is open and not forcible
 pub ready-unsettled : (s : State) (c : ℕ) → mayDo s c ≡ true → isSettled (fateOf s c) ≡ false
@@ -49,50 +49,57 @@ ready-bound s c m = elim (decLt c 16) [
 pub plan-doAll : (s : State) (o : List ℕ) → (doAll s o) .plan ≡ s .plan
 unfolding doAll
 plan-doAll s [] = refl
-plan-doAll s (c ∷ o) = plan-doAll (settleAs Done s c) o ∙ plan-settle Done s c
+plan-doAll s (c ∷ o) = plan-doAll (doOne s c) o ∙ plan-one s c
 
 pub sized-doAll : (s : State) (o : List ℕ) → Sized s → Sized (doAll s o)
 unfolding doAll
 sized-doAll s [] z = z
-sized-doAll s (c ∷ o) z = sized-doAll (settleAs Done s c) o (sized-settle Done s c z)
+sized-doAll s (c ∷ o) z = sized-doAll (doOne s c) o (sized-one s c z)
 
 -- what is settled stays so, and has no turn: the events of a run differ
-pub settled-stays : (s : State) (x e : ℕ) → Sized s → isSettled (fateOf s e) ≡ true → isSettled (fateOf (settleAs Done s x) e) ≡ true
-settled-stays s x e z h = elim (fate-settle-either Done s x e z) [ inl d ↦ ap isSettled d | inr q ↦ ap isSettled q ∙ h ]
-
 no-turn : (s : State) (c : ℕ) → Sized s → isSettled (fateOf s c) ≡ true → (o : List ℕ) → Runs s o → List·Memᴰ c o → ⊥
 no-turn s c z h [] r m = List·Memᴰ·not-nil m
 no-turn s c z h (x ∷ o) r m = elim (List·Memᴰ·cases-cons m) [
   | inl q ↦ clash h (rw q (ready-unsettled s x (r .1)))
-  | inr m′ ↦ no-turn (settleAs Done s x) c (sized-settle Done s x z) (settled-stays s x c z h) o (r .2) m′
+  | inr m′ ↦ no-turn (doOne s x) c (sized-one s x z) (settled-one s x c z h) o (r .2) m′
 ]
 
-settled-run : (s : State) (e : ℕ) → Sized s → (o : List ℕ) → isSettled (fateOf s e) ≡ true → isSettled (fateOf (doAll s o) e) ≡ true
+settled-run : (s : State) (e : ℕ)
+    → Sized s
+    → (o : List ℕ)
+    → isSettled (fateOf s e) ≡ true
+    → isSettled (fateOf (doAll s o) e) ≡ true
 unfolding doAll
 settled-run s e z [] h = h
-settled-run s e z (c ∷ o) h = settled-run (settleAs Done s c) e (sized-settle Done s c z) o (settled-stays s c e z h)
+settled-run s e z (c ∷ o) h = settled-run (doOne s c) e (sized-one s c z) o (settled-one s c e z h)
 
 -- an event of a run is settled after it
-pub member-settled : (s : State) → Sized s → (o : List ℕ) → Runs s o → (e : ℕ) → List·Memᴰ e o → isSettled (fateOf (doAll s o) e) ≡ true
+pub member-settled : (s : State)
+    → Sized s
+    → (o : List ℕ)
+    → Runs s o
+    → (e : ℕ)
+    → List·Memᴰ e o
+    → isSettled (fateOf (doAll s o) e) ≡ true
 unfolding doAll
 member-settled s z [] r e m = absurd (List·Memᴰ·not-nil m)
 member-settled s z (c ∷ o) r e m = elim (List·Memᴰ·cases-cons m) [
-  | inl q ↦ settled-run (settleAs Done s c) e (sized-settle Done s c z) o (rw q (ap isSettled (fate-settle-same Done s c z (ready-bound s c (r .1)))))
-  | inr m′ ↦ member-settled (settleAs Done s c) (sized-settle Done s c z) o (r .2) e m′
+  | inl q ↦ settled-run (doOne s c) e (sized-one s c z) o (rw q (one-settled s c z (ready-bound s c (r .1))))
+  | inr m′ ↦ member-settled (doOne s c) (sized-one s c z) o (r .2) e m′
 ]
 
 pub runs-differ : (s : State) → Sized s → (o : List ℕ) → Runs s o → Different o
 runs-differ s z [] r = tt
 runs-differ s z (c ∷ o) r =
-    let z′ = sized-settle Done s c z in
-    (no-turn (settleAs Done s c) c z′ (ap isSettled (fate-settle-same Done s c z (ready-bound s c (r .1)))) o (r .2), runs-differ (settleAs Done s c) z′ o (r .2))
+    let z′ = sized-one s c z in
+    (no-turn (doOne s c) c z′ (one-settled s c z (ready-bound s c (r .1))) o (r .2), runs-differ (doOne s c) z′ o (r .2))
 
 -- the events of a run are declared, and stand in the array
 pub run-declared : (s : State) (o : List ℕ) → Runs s o → (e : ℕ) → List·Memᴰ e o → (e < eventCount (s .plan)) × (e < 16)
 run-declared s [] r e m = absurd (List·Memᴰ·not-nil m)
 run-declared s (c ∷ o) r e m = elim (List·Memᴰ·cases-cons m) [
   | inl q ↦ rw q (r .0, ready-bound s c (r .1))
-  | inr m′ ↦ let d = run-declared (settleAs Done s c) o (r .2) e m′ in (omega (arith, d .0, ap eventCount (plan-settle Done s c)), d .1)
+  | inr m′ ↦ let d = run-declared (doOne s c) o (r .2) e m′ in (omega (arith, d .0, ap eventCount (plan-one s c)), d .1)
 ]
 
 -- the order contains e, or it was had already: the search's flag at the order's end
@@ -129,12 +136,14 @@ map-none : (c : ℕ) (q : Option (List ℕ)) → Option·map (λ (l : List ℕ).
 map-none c none h = refl
 map-none c (some l) h = absurd (some-none h)
 
-map-some : (c : ℕ) (q : Option (List ℕ)) (o : List ℕ) → Option·map (λ (l : List ℕ). c ∷ l) q ≡ some o → (l : List ℕ) × (q ≡ some l) × (o ≡ c ∷ l)
+map-some : (c : ℕ) (q : Option (List ℕ)) (o : List ℕ)
+    → Option·map (λ (l : List ℕ). c ∷ l) q ≡ some o
+    → (l : List ℕ) × (q ≡ some l) × (o ≡ c ∷ l)
 map-some c none o h = absurd (let z : _≡_ {A = ℕ} 0 1 = cc in omega arith)
 map-some c (some l) o h = (l, refl, cc)
 
-not-false : (b : Bool) → b ≡ false → not b ≡ true
-not-false b h = rw h
+not-of-false : (b : Bool) → b ≡ false → not b ≡ true
+not-of-false b h = rw h
 
 not-true : (b : Bool) → not b ≡ true → b ≡ false
 not-true true h = sym h
@@ -152,18 +161,26 @@ module _ (candidate : ℕ → Bool) where
   Passes o = (c : ℕ) → List·Memᴰ c o → candidate c ≡ true
 
   -- nothing is found: no run of k candidates does
-  pub order-none : (k : ℕ) (s : State) (e : ℕ) (had : Bool) → orderOf candidate k s e had ≡ none → (o : List ℕ) → Reaches k s e had o → Passes o → ⊥
+  pub order-none : (k : ℕ) (s : State) (e : ℕ) (had : Bool)
+      → orderOf candidate k s e had ≡ none
+      → (o : List ℕ)
+      → Reaches k s e had o
+      → Passes o
+      → ⊥
   unfolding orderOf
-  order-none zero s e had h [] r p = some-none (when-none (had && not (owing s)) (some []) h (and-both had (not (owing s)) (r .has-e) (not-false (owing s) (r .runs))))
+  order-none zero s e had h [] r p =
+      some-none (when-none (had && not (owing s)) (some []) h (and-both had (not (owing s)) (r .has-e) (not-of-false (owing s) (r .runs))))
   order-none zero s e had h (c ∷ o) r p = omega (arith, r .long)
   order-none (suc k) s e had h [] r p = omega (arith, r .long)
   order-none (suc k) s e had h (c ∷ o) r p =
       let at = first-none (eventCount (s .plan)) 0 _ h c (omega arith) (omega (arith, r .runs .0)) in
       let later = when-none (candidate c && mayDo s c) _ at (and-both (candidate c) (mayDo s c) (p c (List·Memᴰ·head refl)) (r .runs .1)) in
-      order-none k (settleAs Done s c) e (had || eqb c e) (map-none c _ later) o (record { long = omega (arith, r .long); runs = r .runs .2; has-e = r .has-e }) (λ x m. p x (List·Memᴰ·tail m))
+      order-none k (doOne s c) e (had || eqb c e) (map-none c _ later) o (record { long = omega (arith, r .long); runs = r .runs .2; has-e = r .has-e }) (λ x m. p x (List·Memᴰ·tail m))
 
   -- what is found is such a run
-  pub order-some : (k : ℕ) (s : State) (e : ℕ) (had : Bool) (o : List ℕ) → orderOf candidate k s e had ≡ some o → Reaches k s e had o × Passes o
+  pub order-some : (k : ℕ) (s : State) (e : ℕ) (had : Bool) (o : List ℕ)
+      → orderOf candidate k s e had ≡ some o
+      → Reaches k s e had o × Passes o
   unfolding orderOf
   order-some zero s e had o h =
       let w = when-some (had && not (owing s)) (some []) o h in
@@ -173,12 +190,17 @@ module _ (candidate : ℕ → Bool) where
       let f = first-some (eventCount (s .plan)) 0 _ o h in
       let c = f .place in
       let w = when-some (candidate c && mayDo s c) _ o (f .gives) in
-      let m = map-some c (orderOf candidate k (settleAs Done s c) e (had || eqb c e)) o (w .1) in
-      let r = order-some k (settleAs Done s c) e (had || eqb c e) (m .0) (m .1) in
+      let m = map-some c (orderOf candidate k (doOne s c) e (had || eqb c e)) o (w .1) in
+      let r = order-some k (doOne s c) e (had || eqb c e) (m .0) (m .1) in
       subst (λ l. Reaches (suc k) s e had l × Passes l) (sym (m .2)) (record { long = ap suc (r .0 .long); runs = (omega (arith, f .upto), and-right (candidate c) (mayDo s c) (w .0), r .0 .runs); has-e = r .0 .has-e }, λ x i. elim (List·Memᴰ·cases-cons i) [ inl q ↦ rw q (and-left (candidate c) (mayDo s c) (w .0)) | inr i′ ↦ r .1 x i′ ])
 
   -- no such run is ahead of the one found
-  pub order-ahead : (k : ℕ) (s : State) (e : ℕ) (had : Bool) (o : List ℕ) → orderOf candidate k s e had ≡ some o → (q : List ℕ) → Reaches k s e had q → Passes q → Ahead o q
+  pub order-ahead : (k : ℕ) (s : State) (e : ℕ) (had : Bool) (o : List ℕ)
+      → orderOf candidate k s e had ≡ some o
+      → (q : List ℕ)
+      → Reaches k s e had q
+      → Passes q
+      → Ahead o q
   unfolding orderOf
   order-ahead zero s e had [] h q r p = tt
   order-ahead zero s e had (c ∷ o) h q r p = absurd (omega (arith, order-some zero s e had (c ∷ o) h .0 .long))
@@ -187,14 +209,14 @@ module _ (candidate : ℕ → Bool) where
       let f = first-some (eventCount (s .plan)) 0 _ o h in
       let c = f .place in
       let w = when-some (candidate c && mayDo s c) _ o (f .gives) in
-      let m = map-some c (orderOf candidate k (settleAs Done s c) e (had || eqb c e)) o (w .1) in
-      let tail : Reaches k (settleAs Done s x) e (had || eqb x e) q = record { long = omega (arith, r .long); runs = r .runs .2; has-e = r .has-e } in
+      let m = map-some c (orderOf candidate k (doOne s c) e (had || eqb c e)) o (w .1) in
+      let tail : Reaches k (doOne s x) e (had || eqb x e) q = record { long = omega (arith, r .long); runs = r .runs .2; has-e = r .has-e } in
       let passes : Passes q = λ y i. p y (List·Memᴰ·tail i) in
       subst (λ l. Ahead l (x ∷ q)) (sym (m .2)) (elim (decLt c x) [
         | yes lt ↦ inl lt
         | no ge ↦ elim (ℕ-discrete c x) [
-          | yes z ↦ inr (z, order-ahead k (settleAs Done s c) e (had || eqb c e) (m .0) (m .1) q (rw z tail) passes)
-          | no ne ↦ absurd {A = Ahead (c ∷ m .0) (x ∷ q)} (order-none k (settleAs Done s x) e (had || eqb x e) (map-none x _ (when-none (candidate x && mayDo s x) _ (f .before x (omega arith) (omega arith)) (and-both (candidate x) (mayDo s x) (p x (List·Memᴰ·head refl)) (r .runs .1)))) q tail passes)
+          | yes z ↦ inr (z, order-ahead k (doOne s c) e (had || eqb c e) (m .0) (m .1) q (rw z tail) passes)
+          | no ne ↦ absurd {A = Ahead (c ∷ m .0) (x ∷ q)} (order-none k (doOne s x) e (had || eqb x e) (map-none x _ (when-none (candidate x && mayDo s x) _ (f .before x (omega arith) (omega arith)) (and-both (candidate x) (mayDo s x) (p x (List·Memᴰ·head refl)) (r .runs .1)))) q tail passes)
         ]
       ])
 
@@ -202,13 +224,18 @@ module _ (candidate : ℕ → Bool) where
 reaches : {s : State} {e : ℕ} {o : List ℕ} → Viable s e o → Reaches (length o) s e false o
 reaches {s} {e} {o} v = record { long = refl; runs = v .runs; has-e = mem-has e false o (v .contains) }
 
-abbrev every : ℕ → Bool
+abbrev pub every : ℕ → Bool
 every c = true
 
 -- complete: where no order is chosen, none is viable
 pub chosen-none : (s : State) (e : ℕ) → chosen s e ≡ none → (o : List ℕ) → Viable s e o → ⊥
 unfolding chosen
-chosen-none s e h o v = order-none every (length o) s e false (first-none 6 1 _ h (length o) (mem-long o (v .contains)) (omega (arith, v .short))) o (reaches v) (λ c m. refl)
+chosen-none s e h o v =
+    order-none every
+    (length o) s e false
+    (first-none 6 1 _ h (length o) (mem-long o (v .contains)) (omega (arith, v .short))) o
+    (reaches v)
+    (λ c m. refl)
 
 -- the chosen order is the first of the shortest
 pub chosen-first : (s : State) (e : ℕ) → Sized s → (o : List ℕ) → chosen s e ≡ some o → First s e o
@@ -253,24 +280,34 @@ first-chosen s e z o f = go (chosen s e) refl
 -- the test that tries all orders passes just where a viable one exists
 run-some : (k : ℕ) (s : State) (e : ℕ) (had : Bool) (o : List ℕ) → Reaches k s e had o → someOrder k s e had ≡ true
 unfolding someOrder
-run-some zero s e had [] r = and-both had (not (owing s)) (r .has-e) (not-false (owing s) (r .runs))
+run-some zero s e had [] r = and-both had (not (owing s)) (r .has-e) (not-of-false (owing s) (r .runs))
 run-some zero s e had (c ∷ o) r = absurd (omega (arith, r .long))
 run-some (suc k) s e had [] r = absurd (omega (arith, r .long))
-run-some (suc k) s e had (c ∷ o) r = any-some (eventCount (s .plan)) _ c (r .runs .0) (and-both (mayDo s c) (someOrder k (settleAs Done s c) e (had || eqb c e)) (r .runs .1) (run-some k (settleAs Done s c) e (had || eqb c e) o (record { long = omega (arith, r .long); runs = r .runs .2; has-e = r .has-e })))
+run-some (suc k) s e had (c ∷ o) r =
+    any-some
+    (eventCount (s .plan)) _ c
+    (r .runs .0)
+    (and-both (mayDo s c) (someOrder k (doOne s c) e (had || eqb c e)) (r .runs .1) (run-some k (doOne s c) e (had || eqb c e) o (record { long = omega (arith, r .long); runs = r .runs .2; has-e = r .has-e })))
 
 some-run : (k : ℕ) (s : State) (e : ℕ) (had : Bool) → someOrder k s e had ≡ true → (o : List ℕ) × Reaches k s e had o
 unfolding someOrder
-some-run zero s e had h = ([], record { long = refl; runs = not-true (owing s) (and-right had (not (owing s)) h); has-e = and-left had (not (owing s)) h })
+some-run zero s e had h =
+    ([], record { long = refl; runs = not-true (owing s) (and-right had (not (owing s)) h); has-e = and-left had (not (owing s)) h })
 some-run (suc k) s e had h =
     let f = any-found (eventCount (s .plan)) _ h in
     let c = f .0 in
-    let r = some-run k (settleAs Done s c) e (had || eqb c e) (and-right (mayDo s c) (someOrder k (settleAs Done s c) e (had || eqb c e)) (f .2)) in
-    (c ∷ r .0, record { long = ap suc (r .1 .long); runs = (f .1, and-left (mayDo s c) (someOrder k (settleAs Done s c) e (had || eqb c e)) (f .2), r .1 .runs); has-e = r .1 .has-e })
+    let r = some-run k (doOne s c) e (had || eqb c e) (and-right (mayDo s c) (someOrder k (doOne s c) e (had || eqb c e)) (f .2)) in
+    (c ∷ r .0, record { long = ap suc (r .1 .long); runs = (f .1, and-left (mayDo s c) (someOrder k (doOne s c) e (had || eqb c e)) (f .2), r .1 .runs); has-e = r .1 .has-e })
 
 pub viable-has : (s : State) (e : ℕ) (o : List ℕ) → Viable s e o → hasViable s e ≡ true
 unfolding hasViable
 viable-has s e [] v = absurd (List·Memᴰ·not-nil (v .contains))
-viable-has s e (c ∷ o) v = any-some 6 (λ k. someOrder (suc k) s e false) (length o) (omega (arith, v .short)) (run-some (suc (length o)) s e false (c ∷ o) (reaches v))
+viable-has s e (c ∷ o) v =
+    any-some 6
+    (λ k. someOrder (suc k) s e false)
+    (length o)
+    (omega (arith, v .short))
+    (run-some (suc (length o)) s e false (c ∷ o) (reaches v))
 
 pub has-viable : (s : State) (e : ℕ) → Sized s → hasViable s e ≡ true → (o : List ℕ) × Viable s e o
 unfolding hasViable
@@ -280,4 +317,7 @@ has-viable s e z h =
     (r .0, record { contains = has-contains e (r .0) (r .1 .has-e); short = omega (arith, r .1 .long, f .1); different = runs-differ s z (r .0) (r .1 .runs); runs = r .1 .runs })
 
 pub chosen-none-has : (s : State) (e : ℕ) → Sized s → chosen s e ≡ none → hasViable s e ≡ false
-chosen-none-has s e z h = elim (either (hasViable s e)) [ inl t ↦ let v = has-viable s e z t in absurd (chosen-none s e h (v .0) (v .1)) | inr f ↦ f ]
+chosen-none-has s e z h = elim (either (hasViable s e)) [
+  | inl t ↦ let v = has-viable s e z t in absurd (chosen-none s e h (v .0) (v .1))
+  | inr f ↦ f
+]

@@ -10,9 +10,9 @@ use lib.ListN.{length, getD, take, drop, drop-of-length-le}
 use lib.Seq.{drop-cons, length-take-le, take-all}
 use Rattle.scheduler.specs.declared.order.Found.{Found}
 use Rattle.scheduler.specs.declared.settle.Turned.{Turned}
-use Rattle.scheduler.specs.Prelude.{Fate, Done, Refused, State}
-use Rattle.plan.specs.Base.{firstOf, when, tabulate}
-use Rattle.scheduler.specs.Orders.{doAll, chosen, foundOrder}
+use Rattle.scheduler.specs.Prelude.{Fate, Refused, State}
+use Rattle.plan.specs.Base.{firstOf, when}
+use Rattle.scheduler.specs.Orders.{doOne, doAll, chosen, foundOrder}
 use Rattle.scheduler.specs.State.{fateOf, settleAs}
 use Rattle.plan.specs.Fates.{isHeld}
 use Rattle.scheduler.specs.Rules.{barred}
@@ -22,18 +22,7 @@ use Rattle.plan.proofs.Tests.{clash, first-some, some-none}
 use Rattle.scheduler.proofs.Branches.{upTo-none, upTo-some, lowestHeld, refuse-none, refuse-some}
 use Rattle.plan.proofs.Loops.{Rest, first-here, first-end}
 use Rattle.scheduler.proofs.Searching.{order-some}
-
--- an order of at most six events stands whole at the front of its array
-whole-order : (o : List ℕ) → length o ≤ 6 → take (length o) (tabulate 6 0 (λ i. getD o i 0)) ≡ o
-unfolding tabulate
-whole-order [] h = refl
-whole-order (a ∷ []) h = refl
-whole-order (a ∷ b ∷ []) h = refl
-whole-order (a ∷ b ∷ c ∷ []) h = refl
-whole-order (a ∷ b ∷ c ∷ d ∷ []) h = refl
-whole-order (a ∷ b ∷ c ∷ d ∷ e ∷ []) h = refl
-whole-order (a ∷ b ∷ c ∷ d ∷ e ∷ f ∷ []) h = refl
-whole-order (a ∷ b ∷ c ∷ d ∷ e ∷ f ∷ g ∷ o) h = absurd (omega arith)
+use Rattle.scheduler.proofs.SearchLoops.{fits, answer-some, answer-none}
 
 -- the chosen order has at most six events
 chosen-short : (s : State) (e : ℕ) (o : List ℕ) → chosen s e ≡ some o → length o ≤ 6
@@ -43,22 +32,20 @@ chosen-short s e o h =
     omega (arith, order-some (λ c. true) (f .place) s e false o (f .gives) .0 .long, f .upto)
 
 -- where a search found an order, that is the chosen one, and it stands at the front of the array
-found-order : (s : State) (e : ℕ) (q : Option (List ℕ)) → chosen s e ≡ q → (r : Found) → r ≡ foundOrder q → r .ok ≡ true → (o : List ℕ) × (chosen s e ≡ some o) × (take (r .len) (r .events) ≡ o)
+pub order-found : (s : State) (e : ℕ) (r : Found)
+    → r ≡ foundOrder (chosen s e)
+    → r .ok ≡ true
+    → (o : List ℕ) × (chosen s e ≡ some o) × (take (r .len) (r .events) ≡ o)
 unfolding foundOrder
-found-order s e none is r same t = absurd (clash t (ap (λ (w : Found). w .ok) same))
-found-order s e (some o) is r same t = (o, is, ap (λ (w : Found). take (w .len) (w .events)) same ∙ whole-order o (chosen-short s e o is))
-
-pub order-found : (s : State) (e : ℕ) (r : Found) → r ≡ foundOrder (chosen s e) → r .ok ≡ true → (o : List ℕ) × (chosen s e ≡ some o) × (take (r .len) (r .events) ≡ o)
-order-found s e = found-order s e (chosen s e) refl
+order-found s e r same t =
+    let f = answer-some foundOrder refl (λ o. refl) (chosen s e) r same t in
+    let whole = fits (f .0) (chosen-short s e (f .0) (f .1)) .front-whole in
+    (f .0, f .1, ap (λ (w : Found). take (w .len) (w .events)) (same ∙ ap foundOrder (f .1)) ∙ whole)
 
 -- where a search found none, there is no chosen order
-missing-order : (q : Option (List ℕ)) (r : Found) → r ≡ foundOrder q → r .ok ≡ false → q ≡ none
-unfolding foundOrder
-missing-order none r same f = refl
-missing-order (some o) r same f = absurd (clash (ap (λ (w : Found). w .ok) same) f)
-
 pub order-missing : (s : State) (e : ℕ) (r : Found) → r ≡ foundOrder (chosen s e) → r .ok ≡ false → chosen s e ≡ none
-order-missing s e = missing-order (chosen s e)
+unfolding foundOrder
+order-missing s e = answer-none foundOrder refl (λ o. refl) (chosen s e)
 
 -- an event of an order stands in the array that holds the order
 front-same : (n : ℕ) (l : List ℕ) (i : ℕ) → i < length (take n l) → getD (take n l) i 0 ≡ getD l i 0
@@ -76,7 +63,8 @@ front-whole l n six ge = ap length (take-all n l (omega arith)) ∙ six
 
 -- a loop over an order: its event i is done, and at its end nothing is left to do
 module _ (l : List ℕ) (n i : ℕ) (s : State) where
-  pub do-next : i < length (take n l) → doAll s (drop i (take n l)) ≡ doAll (settleAs Done s (getD l i 0)) (drop (i + 1) (take n l))
+  pub do-next : i < length (take n l)
+      → doAll s (drop i (take n l)) ≡ doAll (doOne s (getD l i 0)) (drop (i + 1) (take n l))
   unfolding doAll
   do-next lt = rw (drop-cons (take n l) i 0 lt, front-same n l i lt, add-one i)
 
@@ -86,7 +74,10 @@ module _ (l : List ℕ) (n i : ℕ) (s : State) where
 
 -- a loop that makes a turn at the first event that gives something
 module _ {A : Type 0} (n : ℕ) (g : ℕ → Option A) (x : ℕ) (before : Rest n g x) (s : State) (f : A → State) where
-  pub turn-made : x < n → (a : A) → g x ≡ some a → record { moved = true; state = f a } ≡ turnOf s (Option·map f (firstOf n 0 g))
+  pub turn-made : x < n
+      → (a : A)
+      → g x ≡ some a
+      → record { moved = true; state = f a } ≡ turnOf s (Option·map f (firstOf n 0 g))
   unfolding turnOf
   turn-made lt a here = rw (before, first-here n x g a lt here)
 
@@ -95,7 +86,11 @@ module _ {A : Type 0} (n : ℕ) (g : ℕ → Option A) (x : ℕ) (before : Rest 
   turn-none ge = rw (before, first-end n x g ge)
 
 -- what code is told of an event's being held is what the state says
-pub held-told : (s : State) (e : ℕ) (x : Fate) (b t : Bool) → x ≡ fateOf s e → b ≡ isHeld x → b ≡ t → isHeld (fateOf s e) ≡ t
+pub held-told : (s : State) (e : ℕ) (x : Fate) (b t : Bool)
+    → x ≡ fateOf s e
+    → b ≡ isHeld x
+    → b ≡ t
+    → isHeld (fateOf s e) ≡ t
 held-told s e x b t f h a = ap isHeld (sym f) ∙ sym h ∙ a
 
 -- an event that is to be refused: it is held and barred
@@ -152,12 +147,22 @@ module _ (s : State) where
 
 -- a turn of settling refuses an event, or does an order where there is none to refuse
 module _ (s : State) where
-  refuse-turn : (q : Option ℕ) → toRefuse s ≡ q → (r : Turned) → r ≡ turnOf s (Option·map (settleAs Refused s) q) → r .moved ≡ true → r ≡ turnOf s (settleOnce s)
+  refuse-turn : (q : Option ℕ)
+      → toRefuse s ≡ q
+      → (r : Turned)
+      → r ≡ turnOf s (Option·map (settleAs Refused s) q)
+      → r .moved ≡ true
+      → r ≡ turnOf s (settleOnce s)
   unfolding settleOnce
   refuse-turn none is r same t = absurd (some-none (sym (turned-some s none r same t)))
   refuse-turn (some e) is r same t = same ∙ ap (turnOf s) (rw (is, settleOnce))
 
-  do-turn : (q : Option ℕ) → toRefuse s ≡ q → (r : Turned) → r ≡ turnOf s (Option·map (settleAs Refused s) q) → r .moved ≡ false → Option·map (doAll s) (toDo s) ≡ settleOnce s
+  do-turn : (q : Option ℕ)
+      → toRefuse s ≡ q
+      → (r : Turned)
+      → r ≡ turnOf s (Option·map (settleAs Refused s) q)
+      → r .moved ≡ false
+      → Option·map (doAll s) (toDo s) ≡ settleOnce s
   unfolding settleOnce
   do-turn none is r same f = rw (is, settleOnce)
   do-turn (some e) is r same f = absurd (some-none (turned-none s (some (settleAs Refused s e)) r same f))
@@ -194,7 +199,11 @@ module _ (s : State) where
   held-rest none is n h = refuse-none n s is
   held-rest (some e) is n h = absurd (some-none h)
 
-  held-next : (q : Option ℕ) → lowestHeld s ≡ q → (n : ℕ) (t : State) → Option·map refusedNext q ≡ some t → refuseHeld (suc n) s ≡ refuseHeld n t
+  held-next : (q : Option ℕ)
+      → lowestHeld s ≡ q
+      → (n : ℕ) (t : State)
+      → Option·map refusedNext q ≡ some t
+      → refuseHeld (suc n) s ≡ refuseHeld n t
   held-next none is n t h = absurd (some-none (sym h))
   held-next (some e) is n t h =
       let here : refusedNext e ≡ t = cc in

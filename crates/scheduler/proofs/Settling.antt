@@ -13,16 +13,17 @@ use Rattle.plan.specs.Plans.{eventCount}
 use Rattle.scheduler.specs.State.{fateOf, settleAs, Sized}
 use Rattle.plan.specs.Fates.{isHeld, isSettled}
 use Rattle.scheduler.specs.Rules.{barred}
-use Rattle.scheduler.specs.Orders.{Runs, Viable, First, chosen, doAll}
+use Rattle.scheduler.specs.Orders.{mayDo, doOne, Runs, Viable, First, chosen, doAll}
 use Rattle.scheduler.specs.Calls.{Lowest, IsHeld, HeldBarred, HeldViable, Turn, refuses, does, Turns, stay, turn, Settles, toRefuse, toDo, settleOnce, settleUpTo, settle, refuseHeld, finish, Refusing, nothing-held, refuse-next, Finishes}
 use Rattle.plan.proofs.Tests.{and-left, and-right, and-both, clash, first-none, first-some, when-none, when-some, some-none, count-le, count-more}
 use Rattle.plan.proofs.Fates.{held-is}
-use Rattle.scheduler.proofs.Laws.{fate-past, plan-settle, fate-settle-same, fate-settle-other, sized-settle}
+use Rattle.scheduler.proofs.Laws.{sized-one, fate-past, plan-settle, fate-settle-same, fate-settle-other, sized-settle}
 use Rattle.scheduler.proofs.Branches.{upTo-none, upTo-some, lowestHeld, refuse-none, refuse-some}
 use Rattle.scheduler.proofs.Searching.{ready-unsettled, ready-bound, plan-doAll, sized-doAll, run-declared, mem-long, chosen-none, chosen-first, first-chosen}
 
 pub held-bound : (s : State) (e : ℕ) → fateOf s e ≡ Held → e < 16
-held-bound s e h = elim (decLt e 16) [ yes lt ↦ lt | no ge ↦ absurd (clash (ap isHeld h) (ap isHeld (fate-past s e (omega arith)))) ]
+held-bound s e h =
+    elim (decLt e 16) [ yes lt ↦ lt | no ge ↦ absurd (clash (ap isHeld h) (ap isHeld (fate-past s e (omega arith)))) ]
 
 -- a test tells whether a property holds
 pub record Tested (P : ℕ → Type 0) (t : ℕ → Bool) : Type 0 where
@@ -33,17 +34,27 @@ pub held-tested : (s : State) → Tested (IsHeld s) (λ e. isHeld (fateOf s e))
 held-tested s = record { test = λ e h. ap isHeld h; fact = λ e h. held-is (fateOf s e) h }
 
 pub barred-tested : (s : State) → Tested (HeldBarred s) (λ e. isHeld (fateOf s e) && barred s e)
-barred-tested s = record { test = λ e h. and-both (isHeld (fateOf s e)) (barred s e) (ap isHeld (h .0)) (h .1); fact = λ e h. (held-is (fateOf s e) (and-left (isHeld (fateOf s e)) (barred s e) h), and-right (isHeld (fateOf s e)) (barred s e) h) }
+barred-tested s = record {
+  test = λ e h. and-both (isHeld (fateOf s e)) (barred s e) (ap isHeld (h .0)) (h .1);
+  fact = λ e h. (held-is (fateOf s e) (and-left (isHeld (fateOf s e)) (barred s e) h), and-right (isHeld (fateOf s e)) (barred s e) h);
+}
 
 -- two lowest events of which P holds are one
 lowest-one : (s : State) (P : ℕ → Type 0) (d e : ℕ) → Lowest s P d → Lowest s P e → d ≡ e
-lowest-one s P d e l m = elim (decLt d e) [ yes lt ↦ absurd (m .none-below d lt (l .is)) | no ge ↦ elim (decLt e d) [ yes lt ↦ absurd (l .none-below e lt (m .is)) | no ge′ ↦ omega arith ] ]
+lowest-one s P d e l m = elim (decLt d e) [
+  | yes lt ↦ absurd (m .none-below d lt (l .is))
+  | no ge ↦ elim (decLt e d) [
+    | yes lt ↦ absurd (l .none-below e lt (m .is))
+    | no ge′ ↦ omega arith
+  ]
+]
 
 -- the lowest event that passes the test is the lowest of which P holds
 module _ (s : State) {P : ℕ → Type 0} {t : ℕ → Bool} (y : Tested P t) where
   pub lowest-none : lowest (eventCount (s .plan)) t ≡ none → (e : ℕ) → e < eventCount (s .plan) → P e → ⊥
   unfolding lowest
-  lowest-none h e lt p = some-none (when-none (t e) (some e) (first-none (eventCount (s .plan)) 0 (λ i. when (t i) (some i)) h e (omega arith) (omega arith)) (y .test e p))
+  lowest-none h e lt p =
+      some-none (when-none (t e) (some e) (first-none (eventCount (s .plan)) 0 (λ i. when (t i) (some i)) h e (omega arith) (omega arith)) (y .test e p))
 
   pub lowest-some : (e : ℕ) → lowest (eventCount (s .plan)) t ≡ some e → Lowest s P e
   unfolding lowest
@@ -102,7 +113,9 @@ unfolding toRefuse
 once-some s t z h = go (toRefuse s) refl (toDo s) refl
   where
     go : (r : Option ℕ) → toRefuse s ≡ r → (d : Option (List ℕ)) → toDo s ≡ d → Turn s t
-    go (some e) r d q = let u : settleAs Refused s e ≡ t = cc (once-refuse s e r) in subst (Turn s) u (refuses e (lowest-some s (barred-tested s) e r))
+    go (some e) r d q =
+        let u : settleAs Refused s e ≡ t = cc (once-refuse s e r) in
+        subst (Turn s) u (refuses e (lowest-some s (barred-tested s) e r))
     go none r none q = absurd (some-none (sym h ∙ once-do s r ∙ ap (Option·map (doAll s)) q))
     go none r (some o) q =
         let f = do-some s z o q in
@@ -113,7 +126,8 @@ once-some s t z h = go (toRefuse s) refl (toDo s) refl
 pub turn-once : (s t : State) → Sized s → Turn s t → settleOnce s ≡ some t
 unfolding toRefuse
 turn-once s t z (refuses e l) = once-refuse s e (some-lowest s (barred-tested s) e l)
-turn-once s t z (does e o nb l f) = once-do s (none-lowest s (barred-tested s) nb) ∙ ap (Option·map (doAll s)) (go (toDo s) refl)
+turn-once s t z (does e o nb l f) =
+    once-do s (none-lowest s (barred-tested s) nb) ∙ ap (Option·map (doAll s)) (go (toDo s) refl)
   where
     go : (d : Option (List ℕ)) → toDo s ≡ d → toDo s ≡ some o
     go none q = absurd (do-none s q e (l .declared) (l .is))
@@ -165,20 +179,37 @@ isUnsettled s e = not (isSettled (fateOf s e))
 abbrev pub unsettled : State → ℕ
 unsettled s = countBelow 16 (isUnsettled s)
 
-pub unsettled-settle : (x : Fate) (s : State) (e : ℕ) → isSettled x ≡ true → Sized s → e < 16 → isSettled (fateOf s e) ≡ false → unsettled s ≡ suc (unsettled (settleAs x s e))
-unsettled-settle x s e fin z lt un = count-more 16 (isUnsettled (settleAs x s e)) (isUnsettled s) e lt (ap (λ (y : Fate). not (isSettled y)) (fate-settle-same x s e z lt) ∙ ap not fin) (ap not un) (λ j ne. ap (λ (y : Fate). not (isSettled y)) (fate-settle-other x s e j ne))
+pub unsettled-settle : (x : Fate) (s : State) (e : ℕ)
+    → isSettled x ≡ true
+    → Sized s
+    → e < 16
+    → isSettled (fateOf s e) ≡ false
+    → unsettled s ≡ suc (unsettled (settleAs x s e))
+unsettled-settle x s e fin z lt un =
+    count-more 16
+    (isUnsettled (settleAs x s e))
+    (isUnsettled s) e lt
+    (ap (λ (y : Fate). not (isSettled y)) (fate-settle-same x s e z lt) ∙ ap not fin)
+    (ap not un)
+    (λ j ne. ap (λ (y : Fate). not (isSettled y)) (fate-settle-other x s e j ne))
+
+-- one event of an order done leaves one fewer
+pub unsettled-one : (s : State) (c : ℕ) → Sized s → mayDo s c ≡ true → unsettled s ≡ suc (unsettled (doOne s c))
+unsettled-one s c z m = unsettled-settle Done s c refl z (ready-bound s c m) (ready-unsettled s c m)
 
 pub unsettled-doAll : (s : State) → Sized s → (o : List ℕ) → Runs s o → unsettled s ≡ length o + unsettled (doAll s o)
 unfolding doAll
 unsettled-doAll s z [] r = omega arith
-unsettled-doAll s z (c ∷ o) r = omega (arith, unsettled-settle Done s c refl z (ready-bound s c (r .1)) (ready-unsettled s c (r .1)), unsettled-doAll (settleAs Done s c) (sized-settle Done s c z) o (r .2))
+unsettled-doAll s z (c ∷ o) r =
+    omega (arith, unsettled-one s c z (r .1), unsettled-doAll (doOne s c) (sized-one s c z) o (r .2))
 
 refuse-falls : (s : State) (e : ℕ) → Sized s → fateOf s e ≡ Held → unsettled (settleAs Refused s e) < unsettled s
 refuse-falls s e z h = omega (arith, unsettled-settle Refused s e refl z (held-bound s e h) (ap isSettled h))
 
 pub turn-falls : {s t : State} → Turn s t → Sized s → unsettled t < unsettled s
 turn-falls {s} (refuses e l) z = refuse-falls s e z (l .is .0)
-turn-falls {s} (does e o nb l f) z = omega (arith, unsettled-doAll s z o (f .viable .runs), mem-long o (f .viable .contains))
+turn-falls {s} (does e o nb l f) z =
+    omega (arith, unsettled-doAll s z o (f .viable .runs), mem-long o (f .viable .contains))
 
 pub turns-fall : {s t : State} → Turns s t → Sized s → unsettled t ≤ unsettled s
 turns-fall stay z = omega arith
@@ -198,7 +229,10 @@ up-to zero s z few = go (settleOnce s) refl
     go (some t) e = absurd (omega (arith, turn-falls (once-some s t z e) z))
 up-to (suc n) s z few = go (settleOnce s) refl (up-to n)
   where
-    go : (q : Option State) → settleOnce s ≡ q → ((t : State) → Sized t → unsettled t ≤ n → Rested t (settleUpTo n t)) → Rested s (settleUpTo (suc n) s)
+    go : (q : Option State)
+        → settleOnce s ≡ q
+        → ((t : State) → Sized t → unsettled t ≤ n → Rested t (settleUpTo n t))
+        → Rested s (settleUpTo (suc n) s)
     go none e rec = subst (Rested s) (sym (upTo-none n s e)) (record { turns = stay; rest = e })
     go (some t) e rec =
         let r : Turn s t = once-some s t z e in
@@ -210,7 +244,8 @@ unfolding settleUpTo
 turns-up stay z h zero few = refl
 turns-up {s} stay z h (suc n) few = sym (upTo-none n s h)
 turns-up (turn r ts) z h zero few = absurd (omega (arith, turn-falls r z))
-turns-up {s} (turn {t = t} r ts) z h (suc n) few = turns-up ts (sized-turn r z) h n (omega (arith, turn-falls r z)) ∙ sym (upTo-some n s t (turn-once s t z r))
+turns-up {s} (turn {t = t} r ts) z h (suc n) few =
+    turns-up ts (sized-turn r z) h n (omega (arith, turn-falls r z)) ∙ sym (upTo-some n s t (turn-once s t z r))
 
 -- settling: 16 turns are enough
 module _ (s : State) (z : Sized s) where
@@ -224,9 +259,6 @@ module _ (s : State) (z : Sized s) where
   pub settle-rest : settleOnce (settle s) ≡ none
   settle-rest = rested .rest
 
-  pub plan-settling : (settle s) .plan ≡ s .plan
-  plan-settling = plan-turns settle-turns
-
   pub sized-settling : Sized (settle s)
   sized-settling = sized-turns settle-turns z
 
@@ -235,7 +267,8 @@ module _ (s : State) (z : Sized s) where
 
 pub settles-settle : (s t : State) → Sized s → Settles s t → t ≡ settle s
 unfolding settle
-settles-settle s t z r = turns-up (r .turns) z (none-once t (sized-turns (r .turns) z) (r .rests)) 16 (count-le 16 (isUnsettled s))
+settles-settle s t z r =
+    turns-up (r .turns) z (none-once t (sized-turns (r .turns) z) (r .rests)) 16 (count-le 16 (isUnsettled s))
 
 -- refusing the lowest held event and settling leaves fewer events unsettled
 next-falls : (s : State) (e : ℕ) → Sized s → fateOf s e ≡ Held → unsettled (settle (settleAs Refused s e)) < unsettled s
@@ -248,7 +281,10 @@ unfolding refuseHeld
 refusing-up zero s z few = nothing-held {s = s} (λ e lt h. omega (arith, refuse-falls s e z h))
 refusing-up (suc n) s z few = go (lowestHeld s) refl (refusing-up n)
   where
-    go : (q : Option ℕ) → lowestHeld s ≡ q → ((t : State) → Sized t → unsettled t ≤ n → Refusing t (refuseHeld n t)) → Refusing s (refuseHeld (suc n) s)
+    go : (q : Option ℕ)
+        → lowestHeld s ≡ q
+        → ((t : State) → Sized t → unsettled t ≤ n → Refusing t (refuseHeld n t))
+        → Refusing s (refuseHeld (suc n) s)
     go none h rec = subst (Refusing s) (sym (refuse-none n s h)) (nothing-held (lowest-none s (held-tested s) h))
     go (some e) h rec =
         let l = lowest-some s (held-tested s) e h in
@@ -268,7 +304,11 @@ up-refusing {s} (refuse-next {t = t} e l r rest) z (suc n) few =
 -- winding up: 16 refusals are enough
 pub finish-finishes : (s : State) → Sized s → Finishes s (finish s)
 unfolding finish
-finish-finishes s z = record { between = settle s; settles = settle-settles s z; refusing = refusing-up 16 (settle s) (sized-settling s z) (count-le 16 (isUnsettled (settle s))) }
+finish-finishes s z = record {
+  between = settle s;
+  settles = settle-settles s z;
+  refusing = refusing-up 16 (settle s) (sized-settling s z) (count-le 16 (isUnsettled (settle s)));
+}
 
 pub finishes-finish : (s t : State) → Sized s → Finishes s t → t ≡ finish s
 unfolding finish

@@ -23,8 +23,8 @@ HeldBarred s e = (fateOf s e ≡ Held) × (barred s e ≡ true)
 abbrev pub HeldViable : State → ℕ → Type 0
 HeldViable s e = (fateOf s e ≡ Held) × (o : List ℕ) × Viable s e o
 
--- one turn of settling: "If any held event is barred, refuse the lowest-numbered such one. Otherwise do the chosen order of the
--- lowest-numbered held event that has a viable order."
+-- one turn of settling: "If any held event is barred, refuse the lowest-numbered such one. Otherwise do the chosen
+-- order of the lowest-numbered held event that has a viable order."
 pub data Turn (s : State) : State → Type 0 where
   refuses : (e : ℕ) → Lowest s (HeldBarred s) e → Turn s (settleAs Refused s e)
   does : (e : ℕ) (o : List ℕ)
@@ -120,8 +120,8 @@ refuseHeld (suc n) s = elim (lowest (eventCount (s .plan)) (λ e. isHeld (fateOf
   | some e ↦ refuseHeld n (settle (settleAs Refused s e))
 ]
 
--- Wind up. "settle; then, while any event is held, refuse the lowest held one and settle." Each time settles an event, and there are
--- at most 16
+-- Wind up. "settle; then, while any event is held, refuse the lowest held one and settle." Each time settles an
+-- event, and there are at most 16
 unfoldable pub finish : State → State
 finish s = refuseHeld 16 (settle s)
 

@@ -1,5 +1,5 @@
--- Demand 3, of any scheduler. Its words are read off the plan, the calls and the history after each call: they cite the rules and
--- `Viable`, and neither the search nor the calls of Orders.antt and Calls.antt.
+-- Demand 3, of any scheduler. Its words are read off the plan, the calls and the history after each call: they cite
+-- the rules and `Viable`, and neither the search nor the calls of Orders.antt and Calls.antt.
 use Rattle.scheduler.specs.Prelude.{ℕ, _≤_, _<_, Bool, true, false, not, _&&_, _||_, List, [], _∷_, _++_, _≡_, eqb, ltb, length, getD, drop, Fate, Open, Held, Done, Rule, Order, Need, Conditional, Plan, Entry, State, Call, Submit, Close, Finish}
 use Rattle.plan.specs.Base.{allBelow, thoseBelow, among, tabulate}
 use Rattle.plan.specs.Fates.{isOpen, isDone, isSettled}
@@ -64,8 +64,8 @@ abbrev pub waitsAs : Bool → Fate
 waitsAs true = Held
 waitsAs false = Open
 
--- "Settled: the event stands in the history. Held: an accepted call of the list handed it in and it is not settled. Open: declared, and
--- neither of these."
+-- "Settled: the event stands in the history. Held: an accepted call of the list handed it in and it is not settled.
+-- Open: declared, and neither of these."
 unfoldable pub observedFate : Observed → ℕ → Fate
 observedFate o e = elim (fatesIn (o .history) e) [ x ∷ xs ↦ x | [] ↦ waitsAs (wasSubmitted o e) ]
 
@@ -91,7 +91,8 @@ unfoldable pub startsDone : List Entry → ℕ → Bool
 startsDone [] e = false
 startsDone (l ∷ ls) e = eqb (l .event) e && isDone (l .fate)
 
--- the hand-in of e after which the history is h did e alone: e was open, had no viable order, and its being done is the first new line
+-- the hand-in of e after which the history is h did e alone: e was open, had no viable order, and its being done is
+-- the first new line
 unfoldable pub doneAlone : Plan → Observed → ℕ → List Entry → Bool
 doneAlone p o e h =
     isOpen (observedFate o e)
@@ -104,7 +105,8 @@ against p s e i =
     not (brokenAt s i)
     && (forbids p (fateOf s) (ruleAt p i) e || owes p (fateOf (settleAs Done s e)) (ruleAt p i))
 
--- "Recorded as broken: in a hand-in of the list an event was done alone although the rule forbade it or owed right after it."
+-- "Recorded as broken: in a hand-in of the list an event was done alone although the rule forbade it or owed right
+-- after it."
 unfoldable pub newlyRecorded : Plan → Observed → ℕ → List Entry → List ℕ
 newlyRecorded p o e h = elim (doneAlone p o e h) [
   | true ↦ thoseBelow (ruleCount p) (against p (hold (stateOf p o) e) e)
@@ -134,8 +136,8 @@ observeAll p o (x ∷ xs) = observeAll p (observe p o (x .0) (x .1)) xs
 unfoldable pub broken : Plan → Observed → ℕ → Bool
 broken p o i = among i (o .recorded) || not (holds (o .history) (ruleAt p i))
 
--- an order rule, or a rule whose triggers are all rejectable. "A need's trigger is a; a conditional's are a and b." "An event can be
--- refused if it is rejectable."
+-- an order rule, or a rule whose triggers are all rejectable. "A need's trigger is a; a conditional's are a and b."
+-- "An event can be refused if it is rejectable."
 unfoldable pub unbreakable : Plan → Rule → Bool
 unbreakable p (Order a b) = true
 unbreakable p (Need a b) = rejectable p a

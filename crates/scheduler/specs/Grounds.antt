@@ -1,4 +1,5 @@
--- Demand 2's grounds, of any scheduler: the writes of a call, one after another, each with its ground. "Nothing else refuses an event."
+-- Demand 2's grounds, of any scheduler: the writes of a call, one after another, each with its ground. "Nothing else
+-- refuses an event."
 use Rattle.scheduler.specs.Prelude.{ℕ, true, false, List, _≡_, Open, Held, Refused, Lapsed, State, Call, Submit, Close, Finish}
 use Rattle.plan.specs.Plans.{stepOf, rejectable, delayable}
 use Rattle.scheduler.specs.State.{fateOf, hold, settleAs, shut, Sized}
@@ -10,8 +11,8 @@ use Rattle.scheduler.specs.Lists.{Scheduler}
 abbrev pub NoViable : State → ℕ → Type 0
 NoViable s e = (o : List ℕ) → Viable s e o → ⊥
 
--- why call c may refuse e in s: it is held and barred; or it was handed in by c, is rejectable and not delayable, and has no viable order;
--- or c winds up, settling has come to its end, and e is the lowest held event
+-- why call c may refuse e in s: it is held and barred; or it was handed in by c, is rejectable and not delayable, and
+-- has no viable order; or c winds up, settling has come to its end, and e is the lowest held event
 pub data Ground (c : Call) (s : State) (e : ℕ) : Type 0 where
   by-bar : fateOf s e ≡ Held → barred s e ≡ true → Ground c s e
   by-submission : c ≡ Submit e

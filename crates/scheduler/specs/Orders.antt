@@ -43,14 +43,15 @@ Ahead [] q = Unit {0}
 Ahead (c ∷ o) [] = ⊥
 Ahead (c ∷ o) (d ∷ q) = (c < d) ⊎ ((c ≡ d) × Ahead o q)
 
--- "The chosen order is the shortest; among equally short ones, the first when event numbers are compared from the front."
+-- "The chosen order is the shortest; among equally short ones, the first when event numbers are compared from the
+-- front."
 pub record First (s : State) (e : ℕ) (o : List ℕ) : Type 0 where
   pub viable : Viable s e o
   pub least : (q : List ℕ) → Viable s e q → (length o < length q) ⊎ ((length o ≡ length q) × Ahead o q)
 
--- The search, proved to find exactly that. "An order of several events is a first event and then a shorter order from the state after it."
--- the first order of k of the events that pass the test `candidate`, compared from the front, that contains e (or had it already)
--- and after which no rule owes
+-- The search, proved to find exactly that. "An order of several events is a first event and then a shorter order from
+-- the state after it." the first order of k of the events that pass the test `candidate`, compared from the front,
+-- that contains e (or had it already) and after which no rule owes
 unfoldable pub orderOf : (ℕ → Bool) → ℕ → State → ℕ → Bool → Option (List ℕ)
 orderOf candidate zero s e had = when (had && not (owing s)) (some [])
 orderOf candidate (suc k) s e had = firstOf (eventCount (s .plan)) 0 (λ c.

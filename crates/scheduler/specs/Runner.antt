@@ -81,9 +81,9 @@ unfoldable pub historyLines : List Entry → List ℕ
 historyLines [] = []
 historyLines (l ∷ ls) = line (decimal (l .event) ␣ fateWord (l .fate)) ++ historyLines ls
 
--- "Line 1 counts declarations; then one line for each history entry ..; then, as counts, the events still held, the rules recorded
--- broken and the calls turned down."
--- "For a sheet turned down it prints one line, such as `refused 7 at 6`."
+-- "Line 1 counts declarations; then one line for each history entry ..; then, as counts, the events still held, the
+-- rules recorded broken and the calls turned down." "For a sheet turned down it prints one line, such as `refused 7
+-- at 6`."
 unfoldable pub report : Outcome → List ℕ
 report r = elim (r .verdict) [
   | Admitted ↦

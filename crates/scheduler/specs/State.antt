@@ -5,7 +5,8 @@ use Rattle.plan.specs.Fates.{Fates, fatesOf, blankStanding}
 use Rattle.plan.specs.Plans.{emptyPlan}
 use Rattle.plan.specs.Histories.{blankEntry}
 
--- "An admitted sheet's first state has every event open, no step closed, no line of history and no rule recorded as broken."
+-- "An admitted sheet's first state has every event open, no step closed, no line of history and no rule recorded as
+-- broken."
 abbrev pub firstState : Plan → State
 firstState p = record {
   plan = p;
@@ -49,7 +50,8 @@ hold s e = record {
   «history_len» = lineCount s;
 }
 
--- an event is settled: its fate is written and its line added to the history. The line count stops at 16 (it is never met)
+-- an event is settled: its fate is written and its line added to the history. The line count stops at 16 (it is never
+-- met)
 unfoldable pub settleAs : Fate → State → ℕ → State
 settleAs x s e = record {
   plan = s .plan;

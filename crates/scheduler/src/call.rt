@@ -1,5 +1,5 @@
-// The calls: hand in, close a step, wind up. Each takes the state and gives the answer and the state after it; one that is turned
-// down gives back the state as it came in.
+// The calls: hand in, close a step, wind up. Each takes the state and gives the answer and the state after it; one
+// that is turned down gives back the state as it came in.
 use super::reply::Reply;
 use super::settle::Turned;
 use super::state::State;
@@ -244,7 +244,8 @@ impl State {
         }
     }
 
-    // While any event is held, the lowest is refused and the rest settled. Each turn settles an event, and there are at most 16.
+    // While any event is held, the lowest is refused and the rest settled. Each turn settles an event, and there are
+    // at most 16.
     fn refuse_held(self) -> State
         ensures { λ r. ⌜ r ≡ refuseHeld 16 self ⌝ }
     {

@@ -1,4 +1,5 @@
-// Number 12: whether a state hangs together. Any state is read, also one that a caller made up: past the places stand blanks.
+// Number 12: whether a state hangs together. Any state is read, also one that a caller made up: past the places stand
+// blanks.
 use super::state::State;
 use plan::event::event_in;
 use plan::event::is_sound;

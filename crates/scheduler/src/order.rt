@@ -124,8 +124,9 @@ impl State {
     }
 }
 
-// The first order of so many events, compared from the front, that contains the event (or had it already) and after which
-// no rule owes. It goes on an order of `at` events: its own stand at `at` and after, and the length counts both.
+// The first order of so many events, compared from the front, that contains the event (or had it already) and after
+// which no rule owes. It goes on an order of `at` events: its own stand at `at` and after, and the length counts
+// both.
 fn search(s: State, event: u8, had: bool, at: u8, places: u8) -> Found
     requires { ⌜ at + places ≤ 6 ⌝ }
     ensures { λ r. ⌜ r ≡ foundFrom at (orderOf (λ (c : ℕ). true) places s event had) ⌝ }

@@ -15,7 +15,8 @@ pub struct Reply {
     pub state: State,
 }
 
-// What running a list of calls on a sheet comes to: the sheet's verdict, the state after the list, and how many calls were turned down.
+// What running a list of calls on a sheet comes to: the sheet's verdict, the state after the list, and how many calls
+// were turned down.
 pub struct Outcome {
     pub verdict: Verdict,
     pub state: State,

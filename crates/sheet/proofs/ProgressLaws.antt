@@ -1,4 +1,5 @@
--- Laws of a reading under way: what a check's answer tells, the branches of taking a record, and what a reading comes to.
+-- Laws of a reading under way: what a check's answer tells, the branches of taking a record, and what a reading comes
+-- to.
 use Prim.Native.Nat.{ℕ, _+_, _≤_, _<_}
 use mathlib.Core.Bool.{true, false}
 use mathlib.Core.Option.{Option, none, some}

@@ -1,4 +1,5 @@
--- What a reader owns, for the walks of the functions over one: it holds a `&`, so it can be had twice, and what its sheet owns can be taken out.
+-- What a reader owns, for the walks of the functions over one: it holds a `&`, so it can be had twice, and what its
+-- sheet owns can be taken out.
 use mathlib.Core.Path.{_≡_}
 use mathlib.Core.List.{[], _∷_}
 use lib.Dec.{T as Holds}

@@ -1,4 +1,5 @@
--- Laws of a sheet's records: the record past the end, the offset after a record, and the branches of its rule and of what it declares.
+-- Laws of a sheet's records: the record past the end, the offset after a record, and the branches of its rule and of
+-- what it declares.
 use Prim.Native.Nat.{ℕ, _+_, _≤_, _<_}
 use mathlib.Core.List.{List}
 use mathlib.Core.Path.{_≡_, refl}

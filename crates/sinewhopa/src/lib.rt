@@ -5,8 +5,8 @@ ghost use lib.ListN.{length};
 ghost use Rattle.scheduler.specs.Runner.{runOf, report};
 ghost use Rattle.report.specs.Filled.{filled};
 
-// Runs the calls on the sheet, writes the report at the start of `out` and answers its length. Where that is more than there is room
-// for, nothing is written.
+// Runs the calls on the sheet, writes the report at the start of `out` and answers its length. Where that is more
+// than there is room for, nothing is written.
 #[no_mangle]
 pub extern "C" fn sinewhopa_run(sheet: &[u8], calls: &[u8], out: &mut [u8]) -> usize
     ensures length { λ r. ⌜ r ≡ length (report (runOf (now (sheet .entry)) (now (calls .entry)))) ⌝ }

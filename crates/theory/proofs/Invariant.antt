@@ -15,7 +15,7 @@ use Rattle.plan.specs.Plans.{eventCount, stepOf, delayable}
 use Rattle.scheduler.specs.State.{fateOf, brokenAt, closedAt, lines, settleAs, shut, Sized}
 use Rattle.plan.specs.Histories.{blankEntry, fateIf}
 use Rattle.plan.specs.Fates.{isOpen, isDone, isGone, isSettled}
-use Rattle.scheduler.specs.Orders.{Runs, Viable, doAll}
+use Rattle.scheduler.specs.Orders.{doOne, Runs, Viable, doAll}
 use Rattle.scheduler.specs.Calls.{Turn, refuses, does, Turns, stay, turn, Settles, settleOnce, settle, lapse, closeStep, Refusing, nothing-held, refuse-next, finish}
 use Rattle.plan.proofs.Tests.{clash, either, and-left, and-both}
 use Rattle.plan.proofs.Fates.{open-is}
@@ -138,7 +138,7 @@ do-run {p} sd s k w (c ∷ o) r =
     let lt : c < eventCount p = omega (arith, r .0, same-events (k .shape)) in
     let un = ready-unsettled s c (r .1) in
     let b = listing-settle Done c refl k lt un in
-    let z = do-run sd (settleAs Done s c) b (obeyed-do sd c k lt (r .1) w) o (r .2) in
+    let z = do-run sd (doOne s c) b (obeyed-do sd c k lt (r .1) w) o (r .2) in
     record {
       listing = z .listing;
       obeyed = z .obeyed;

@@ -17,7 +17,7 @@ use Rattle.plan.specs.Fates.{isDone, isGone, isSettled}
 use Rattle.plan.specs.Rules.{named, bars, makesWait, forbids, owes, ready}
 use Rattle.plan.specs.Histories.{fateIf, anyDone, fatesIn, doneIn, doneInTurn}
 use Rattle.scheduler.specs.Rules.{forbidden, owing}
-use Rattle.scheduler.specs.Orders.{mayDo}
+use Rattle.scheduler.specs.Orders.{doOne, mayDo}
 use Rattle.scheduler.specs.Demand.{unbreakable}
 use Rattle.plan.proofs.Tests.{clash, either, or-left, or-right, or-both, and-left, and-right, and-both, and-not, any-false}
 use Rattle.plan.proofs.Lines.{doneIn-append, doneIn-cons}
@@ -188,8 +188,8 @@ pub record RulesObeyed (p : Plan) (s : State) : Type 0 where
       → doneInTurn (lines s) b a ≡ false
   pub paid : NoStanding p s (unpaid s)
 
--- from an admitted sheet on: an order's b that can wait is done after its a is settled, and only a rule with a trigger
--- that cannot be refused is recorded as broken
+-- from an admitted sheet on: an order's b that can wait is done after its a is settled, and only a rule with a
+-- trigger that cannot be refused is recorded as broken
 pub record Strict (p : Plan) (s : State) : Type 0 where
   pub first : (i a b : ℕ)
       → i < ruleCount p
@@ -368,19 +368,19 @@ module _ {p : Plan} {s : State} (sd : Sound p) (e : ℕ) (k : HistoryListed p s)
   no-wait i l b =
       or-right (bars (s .plan) (fateOf s) (ruleAt p i) e) (makesWait (s .plan) (fateOf s) (ruleAt p i) e) (free i l b)
 
-  pub obeyed-do : RulesObeyed p s → RulesObeyed p (settleAs Done s e)
+  pub obeyed-do : RulesObeyed p s → RulesObeyed p (doOne s e)
   obeyed-do w =
-      let before : (i : ℕ) → brokenAt (settleAs Done s e) i ≡ false → brokenAt s i ≡ false =
+      let before : (i : ℕ) → brokenAt (doOne s e) i ≡ false → brokenAt s i ≡ false =
       λ i n. sym (broken-settle Done s e i) ∙ n in
-      obeyed-done sd e k w lt un (settleAs Done s e) refl (λ r. refl) before (λ i l n. no-bar i l (before i n))
+      obeyed-done sd e k w lt un (doOne s e) refl (λ r. refl) before (λ i l n. no-bar i l (before i n))
 
   first-do : Strict p s
       → (i a b : ℕ)
       → i < ruleCount p
       → ruleAt p i ≡ Order a b
       → delayable p b ≡ true
-      → isDone (fateOf (settleAs Done s e) b) ≡ true
-      → isSettled (fateOf (settleAs Done s e) a) ≡ true
+      → isDone (fateOf (doOne s e) b) ≡ true
+      → isSettled (fateOf (doOne s e) a) ≡ true
   unfolding makesWait
   first-do w i a b l r d h = settled-stays Done e refl k lt un a (elim (ℕ-discrete b e) [
     | yes q ↦
@@ -391,7 +391,7 @@ module _ {p : Plan} {s : State} (sd : Sound p) (e : ℕ) (k : HistoryListed p s)
     | no ne ↦ w .first i a b l r d (rw (fate-settle-other Done s e b ne) at h)
   ])
 
-  pub strict-do : Strict p s → Strict p (settleAs Done s e)
+  pub strict-do : Strict p s → Strict p (doOne s e)
   strict-do w = record { first = first-do w; weak = λ i l b. w .weak i l (sym (broken-settle Done s e i) ∙ b) }
 
 unowed : (d t : Bool) → (d && not t) ≡ false → t ≡ false → d ≡ false

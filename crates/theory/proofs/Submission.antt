@@ -1,5 +1,5 @@
--- Handing in an open event keeps the invariant: it is done by an order, waits or is refused, or is done alone, with the
--- rules that this strains recorded as broken.
+-- Handing in an open event keeps the invariant: it is done by an order, waits or is refused, or is done alone, with
+-- the rules that this strains recorded as broken.
 use Prim.Native.Nat.{ℕ, zero, suc, _≤_, _<_}
 use native.Mathlib.Omega.{arith}
 use native.Mathlib.Decide.{ℕ-discrete}
@@ -17,7 +17,7 @@ use Rattle.scheduler.specs.State.{fateOf, brokenAt, closedAt, lineCount, lines,
 use Rattle.plan.specs.Histories.{blankEntry, fateIf}
 use Rattle.plan.specs.Fates.{isOpen, isHeld, isDone, isGone, isSettled}
 use Rattle.plan.specs.Rules.{enforceable, bars, makesWait, forbids, owes}
-use Rattle.scheduler.specs.Orders.{Viable, chosen, doAll, hasViable}
+use Rattle.scheduler.specs.Orders.{doOne, Viable, chosen, doAll, hasViable}
 use Rattle.scheduler.specs.Calls.{Turn, refuses, does, Turns, stay, turn, settle, strains, breakIf, recordBroken, doAlone, submit}
 use Rattle.scheduler.specs.Demand.{unbreakable, startsDone}
 use Rattle.scheduler.specs.Grounds.{NoViable}
@@ -333,7 +333,7 @@ run-adds {p} sd s k w e d (c ∷ o) v n u f =
     let lt : c < eventCount p = omega (arith, v .runs .0, same-events (k .shape)) in
     let un = ready-unsettled s c (v .runs .1) in
     let b = listing-settle Done c refl k lt un in
-    let y = do-run sd (settleAs Done s c) b (obeyed-do sd c k lt (v .runs .1) w) o (v .runs .2) in
+    let y = do-run sd (doOne s c) b (obeyed-do sd c k lt (v .runs .1) w) o (v .runs .2) in
     adds-first e (record { event = c; fate = Done }) (lines-then Done c refl k lt un)
     (elim (either (eqb c e)) [
       | inr b ↦ rw b

@@ -87,7 +87,8 @@ module _ {M : Type 1} {𝓤 : URA M} {H : Heap 𝓤} {A : Atoms 𝓤} {K : Type 
       (k (subst (λ (w : Val). Is (Row 𝓤 H A T c y) x (w ∷ [])) (ap only (tells (u ∷ []) is)) is)))))
 
   module _ {E : Env 𝓤 H} {C : Calls 𝓤 H} {f : Name} {xs : List Operand} {Λ : Loops 𝓤 H} {q : Post 𝓤 H} {d : Place} where
-    -- a call: the callee's theorem, what it is passed (y), the result (x, v), and an item i of the context that gives what it asks
+    -- a call: the callee's theorem, what it is passed (y), the result (x, v), and an item i of the context that gives
+    -- what it asks
     pub calls-known : K → FmC 𝓤 H (W .laws) C → {rest : Body} (T : Ended) (c : Clauses 𝓤 T) → Triple 𝓤 (C f) (Its 𝓤 H A T c) → (y : Its 𝓤 H A T c .Ghost) (x : Res (T .signature) (y .0 .0)) (v : Val)
         → (i : Item 𝓤) → ent 𝓤 (mean 𝓤 H A i) (Its 𝓤 H A T c .pre y) → Says 𝓤 H A T c y x → Tells 𝓤 H A T c y x v → Opds K W (i ∷ Γ) E xs (passed 𝓤 H A (T .signature) (y .0))
         → (Is (Row 𝓤 H A T c y) x (v ∷ []) → Seq K W (‵ (Row 𝓤 H A T c y .own x (v ∷ [])) ∷ raw (Tokens 𝓤 H A T c y) ∷ Γ) (lands C Λ E d v rest q)) → Seq K W (i ∷ Γ) (runs C Λ E (seq (call f xs d) rest) q)

@@ -24,7 +24,9 @@ cast-count : tie.Need-cast-count Inv-loop μ-loop
 cast-count c = search needs
 
 add-count : tie.Need-add-count Inv-loop μ-loop
-add-count c = let h = count-small _ _ (c .before .before .loop .count) (c .before .before .loop .i) (c .mark-in .result) (c .before .before .loop .inv) (c .before .loop-test .taken) (c .mark-in .ensures) (omega arith) in omega arith
+add-count c =
+    let h = count-small _ _ (c .before .before .loop .count) (c .before .before .loop .i) (c .mark-in .result) (c .before .before .loop .inv) (c .before .loop-test .taken) (c .mark-in .ensures) (omega arith) in
+    omega arith
 
 add-i : tie.Need-add-i Inv-loop μ-loop
 add-i c = omega arith
@@ -33,7 +35,14 @@ loop-less : tie.Need-loop-less Inv-loop μ-loop
 loop-less c = omega arith
 
 loop-again : tie.Need-loop-again Inv-loop μ-loop
-loop-again c = count-next _ _ (c .before .before .loop .count) (c .before .before .loop .i) (c .mark-in .result) (c .before .before .loop .inv) (c .before .loop-test .taken) (c .mark-in .ensures)
+loop-again c =
+    count-next _ _
+    (c .before .before .loop .count)
+    (c .before .before .loop .i)
+    (c .mark-in .result)
+    (c .before .before .loop .inv)
+    (c .before .loop-test .taken)
+    (c .mark-in .ensures)
 
 returns : tie.Need-returns Inv-loop μ-loop
 returns c = count-all _ _ _ (c .before .loop .i) (c .before .loop .inv) (c .loop-test .left)

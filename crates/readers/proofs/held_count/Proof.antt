@@ -28,7 +28,9 @@ cast-count : tie.Need-cast-count Inv-loop μ-loop
 cast-count c = search needs
 
 add-count : tie.Need-add-count Inv-loop μ-loop
-add-count c = let h = count-small _ _ (c .before .before .before .loop .count) (c .before .before .before .loop .i) (c .is-held .result) (c .before .before .before .loop .inv) (c .before .before .loop-test .taken) (c .is-held .ensures ∙ ap isHeld (c .before .fate-in .ensures)) (omega arith) in omega arith
+add-count c =
+    let h = count-small _ _ (c .before .before .before .loop .count) (c .before .before .before .loop .i) (c .is-held .result) (c .before .before .before .loop .inv) (c .before .before .loop-test .taken) (c .is-held .ensures ∙ ap isHeld (c .before .fate-in .ensures)) (omega arith) in
+    omega arith
 
 add-i : tie.Need-add-i Inv-loop μ-loop
 add-i c = omega arith
@@ -37,7 +39,14 @@ loop-less : tie.Need-loop-less Inv-loop μ-loop
 loop-less c = omega arith
 
 loop-again : tie.Need-loop-again Inv-loop μ-loop
-loop-again c = count-next _ _ (c .before .before .before .loop .count) (c .before .before .before .loop .i) (c .is-held .result) (c .before .before .before .loop .inv) (c .before .before .loop-test .taken) (c .is-held .ensures ∙ ap isHeld (c .before .fate-in .ensures))
+loop-again c =
+    count-next _ _
+    (c .before .before .before .loop .count)
+    (c .before .before .before .loop .i)
+    (c .is-held .result)
+    (c .before .before .before .loop .inv)
+    (c .before .before .loop-test .taken)
+    (c .is-held .ensures ∙ ap isHeld (c .before .fate-in .ensures))
 
 returns : tie.Need-returns Inv-loop μ-loop
 returns c = count-all _ _ _ (c .before .loop .i) (c .before .loop .inv) (c .loop-test .left)

@@ -17,7 +17,8 @@ mark-of-requires c κs = search needs
 
 returns-2 : tie.Need-returns-2
 unfolding brokenRead
-returns-2 c = simp (brokenRead, lt-ltb _ _ (c .before .before .if1 .left), lt-ltb _ _ (c .before .if2 .taken), c .mark-of .ensures)
+returns-2 c =
+    simp (brokenRead, lt-ltb _ _ (c .before .before .if1 .left), lt-ltb _ _ (c .before .if2 .taken), c .mark-of .ensures)
 
 returns-3 : tie.Need-returns-3
 unfolding brokenRead

@@ -16,7 +16,8 @@ array-copy-out-standing c = search needs
 
 returns-2 : tie.Need-returns-2
 unfolding fateRead
-returns-2 c = simp (fateRead, fateOf, fatesOf, lt-ltb _ _ (c .before .before .if1 .left), lt-ltb _ _ (c .before .if2 .taken))
+returns-2 c =
+    simp (fateRead, fateOf, fatesOf, lt-ltb _ _ (c .before .before .if1 .left), lt-ltb _ _ (c .before .if2 .taken))
 
 returns-3 : tie.Need-returns-3
 unfolding fateRead

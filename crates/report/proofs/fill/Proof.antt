@@ -33,13 +33,16 @@ loop-less : tie.Need-loop-less Inv-loop μ-loop
 loop-less c = omega arith
 
 loop-again : tie.Need-loop-again Inv-loop μ-loop
-loop-again c = (omega arith, ap (λ (l : List ℕ). set l (c .before .before .loop .i) (getD (c .before .before .before .before .args .text .now) (c .before .before .loop .i) 0)) (c .before .before .loop .inv .1) ∙ copy-next _ _ (c .before .before .before .if1 .left) (c .before .before .loop .i) (c .before .loop-test .taken), length-set (c .before .before .loop .out) (c .before .before .loop .i) (getD (c .before .before .before .before .args .text .now) (c .before .before .loop .i) 0) ∙ c .before .before .loop .inv .2)
+loop-again c =
+    (omega arith, ap (λ (l : List ℕ). set l (c .before .before .loop .i) (getD (c .before .before .before .before .args .text .now) (c .before .before .loop .i) 0)) (c .before .before .loop .inv .1) ∙ copy-next _ _ (c .before .before .before .if1 .left) (c .before .before .loop .i) (c .before .loop-test .taken), length-set (c .before .before .loop .out) (c .before .before .loop .i) (getD (c .before .before .before .before .args .text .now) (c .before .before .loop .i) 0) ∙ c .before .before .loop .inv .2)
 
 same-length : tie.Need-same-length Inv-loop μ-loop
 same-length c = c .before .loop .inv .2
 
 returns-2 : tie.Need-returns-2 Inv-loop μ-loop
-returns-2 c = c .before .loop .inv .1 ∙ copy-all _ _ (c .before .before .if1 .left) (c .before .loop .i) (c .before .loop .inv .0) (c .loop-test .left)
+returns-2 c =
+    c .before .loop .inv .1
+    ∙ copy-all _ _ (c .before .before .if1 .left) (c .before .loop .i) (c .before .loop .inv .0) (c .loop-test .left)
 
 pub fill-spec : {M : Type 1} → statement M
 fill-spec =

@@ -1,4 +1,5 @@
--- `write_report` meets its contract: the page has room for the report, and what it holds up to the report's length is copied.
+-- `write_report` meets its contract: the page has room for the report, and what it holds up to the report's length is
+-- copied.
 use Prim.Native.Nat.{ℕ, _≤_}
 use native.Mathlib.Nat.{zero-add}
 use native.Mathlib.Omega.{arith}
@@ -20,10 +21,20 @@ put-report-requires : tie.Need-put-report-requires
 put-report-requires c κs = short (c .before .before)
 
 array-share-prefix-page : tie.Need-array-share-prefix-page
-array-share-prefix-page c = page-room (replicate 320 0) (report (c .before .before .before .args .outcome)) _ _ (c .put-report .ensures) (short (c .before .before .before))
+array-share-prefix-page c =
+    page-room
+    (replicate 320 0)
+    (report (c .before .before .before .args .outcome)) _ _
+    (c .put-report .ensures)
+    (short (c .before .before .before))
 
 slice-aggregate-fill : tie.Need-slice-aggregate-fill
-slice-aggregate-fill c = page-size (replicate 320 0) (report (c .before .before .before .before .args .outcome)) _ _ (c .before .put-report .ensures) (short (c .before .before .before .before))
+slice-aggregate-fill c =
+    page-size
+    (replicate 320 0)
+    (report (c .before .before .before .before .args .outcome)) _ _
+    (c .before .put-report .ensures)
+    (short (c .before .before .before .before))
 
 fill-requires : tie.Need-fill-requires
 fill-requires c κs = search needs

@@ -30,10 +30,12 @@ unfoldable pub head : ℕ → ℕ → List ℕ
 head events rules = line (eventsWord ␣ decimal events ␣ rulesWord ␣ decimal rules)
 
 unfoldable pub tail : ℕ → ℕ → ℕ → List ℕ
-tail held broken refused = line (fateWord Held ␣ decimal held) ++ line (brokenWord ␣ decimal broken) ++ line (fateWord Refused ␣ callsWord ␣ decimal refused)
+tail held broken refused =
+    line (fateWord Held ␣ decimal held) ++ line (brokenWord ␣ decimal broken) ++ line (fateWord Refused ␣ callsWord ␣ decimal refused)
 
 unfoldable pub stateText : State → ℕ → List ℕ
-stateText s refused = head (eventCount (s .plan)) (ruleCount (s .plan)) ++ historyLines (lines s) ++ tail (heldCount s) (brokenCount s) refused
+stateText s refused =
+    head (eventCount (s .plan)) (ruleCount (s .plan)) ++ historyLines (lines s) ++ tail (heldCount s) (brokenCount s) refused
 
 unfoldable pub faultLine : SheetFault → ℕ → List ℕ
 faultLine f at = line (fateWord Refused ␣ decimal (sheetFaultNumber f) ␣ atWord ␣ decimal at)

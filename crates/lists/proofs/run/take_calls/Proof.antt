@@ -17,7 +17,8 @@ call-at-requires : tie.Need-call-at-requires Inv-loop μ-loop
 call-at-requires c κs = tt
 
 take-call-requires : tie.Need-take-call-requires Inv-loop μ-loop
-take-call-requires c κs = room _ _ _ (c .before .before .loop .inv) (c .before .loop-test .taken) _ (c .call-at .ensures) (omega arith)
+take-call-requires c κs =
+    room _ _ _ (c .before .before .loop .inv) (c .before .loop-test .taken) _ (c .call-at .ensures) (omega arith)
 
 loop-less : tie.Need-loop-less Inv-loop μ-loop
 loop-less c =

@@ -13,7 +13,12 @@ returns-3 : tie.Need-returns-3
 returns-3 c = of-finish _ (c .before .before .before .args .number) (c .if3 .taken)
 
 returns-4 : tie.Need-returns-4
-returns-4 c = of-another _ (c .before .before .before .args .number) (c .before .before .if1 .left) (c .before .if2 .left) (c .if3 .left)
+returns-4 c =
+    of-another _
+    (c .before .before .before .args .number)
+    (c .before .before .if1 .left)
+    (c .before .if2 .left)
+    (c .if3 .left)
 
 pub call-of-spec : {M : Type 1} → statement M
 call-of-spec = tie.close (tie.spec returns returns-2 returns-3 returns-4)

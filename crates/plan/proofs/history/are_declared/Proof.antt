@@ -10,7 +10,8 @@ use Rattle.plan.proofs.history.are_declared.Statement.{statement}
 use Rattle.plan.proofs.history.are_declared.Tie as tie
 
 abbrev Inv-loop : tie.InvT-loop
-Inv-loop len count history n i₀ i = declaredOnly (take len history) count ≡ declaredOnly (drop i (take len history)) count
+Inv-loop len count history n i₀ i =
+    declaredOnly (take len history) count ≡ declaredOnly (drop i (take len history)) count
 
 abbrev μ-loop : tie.MeasureT-loop
 μ-loop len count history n i₀ i = n - i

@@ -23,7 +23,8 @@ is-done-in-requires-2 c κs = search needs
 
 returns : tie.Need-returns
 unfolding holds
-returns c = simp (c .before .before .before .before .rule2 .given .1, sym (c .before .before .is-done-in .ensures) ∙ c .before .if1 .taken, c .is-done-in2 .ensures, Bool·not-not)
+returns c =
+    simp (c .before .before .before .before .rule2 .given .1, sym (c .before .before .is-done-in .ensures) ∙ c .before .if1 .taken, c .is-done-in2 .ensures, Bool·not-not)
 
 enum-known-rule-3 : tie.Need-enum-known-rule-3
 enum-known-rule-3 c = search needs
@@ -39,7 +40,8 @@ is-done-in-requires-5 c κs = search needs
 
 returns-2 : tie.Need-returns-2
 unfolding holds
-returns-2 c = simp (c .before .before .before .before .before .before .rule3 .given .1, sym (c .before .before .before .before .is-done-in3 .ensures) ∙ c .before .before .before .if2 .taken, sym (c .before .before .is-done-in4 .ensures) ∙ c .before .if3 .taken, c .is-done-in5 .ensures, Bool·not-not)
+returns-2 c =
+    simp (c .before .before .before .before .before .before .rule3 .given .1, sym (c .before .before .before .before .is-done-in3 .ensures) ∙ c .before .before .before .if2 .taken, sym (c .before .before .is-done-in4 .ensures) ∙ c .before .if3 .taken, c .is-done-in5 .ensures, Bool·not-not)
 
 returns-3 : tie.Need-returns-3
 unfolding holds
@@ -51,7 +53,8 @@ returns-4 c = simp (c .before .before .before .rule2 .given .1, sym (c .before .
 
 returns-5 : tie.Need-returns-5
 unfolding holds
-returns-5 c = simp (c .before .before .before .before .before .rule3 .given .1, sym (c .before .before .before .is-done-in3 .ensures) ∙ c .before .before .if2 .taken, sym (c .before .is-done-in4 .ensures) ∙ c .if3 .left)
+returns-5 c =
+    simp (c .before .before .before .before .before .rule3 .given .1, sym (c .before .before .before .is-done-in3 .ensures) ∙ c .before .before .if2 .taken, sym (c .before .is-done-in4 .ensures) ∙ c .if3 .left)
 
 returns-6 : tie.Need-returns-6
 unfolding holds

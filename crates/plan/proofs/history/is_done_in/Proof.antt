@@ -1,4 +1,5 @@
--- `is_done_in` meets its contract. The loop's invariant: what is left of the lines says of the event what all of them say.
+-- `is_done_in` meets its contract. The loop's invariant: what is left of the lines says of the event what all of them
+-- say.
 use Prim.Native.Nat.{_-_}
 use native.Mathlib.Omega.{arith}
 use borrow.Author.Needs.{needs}

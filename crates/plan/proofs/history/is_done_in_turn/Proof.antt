@@ -1,4 +1,5 @@
--- `is_done_in_turn` meets its contract. The loop's invariant: all lines say it exactly if `a` was seen done and `b` is done in what is left, or what is left says it.
+-- `is_done_in_turn` meets its contract. The loop's invariant: all lines say it exactly if `a` was seen done and `b`
+-- is done in what is left, or what is left says it.
 use Prim.Native.Nat.{_-_}
 use native.Mathlib.Omega.{arith}
 use borrow.Author.Needs.{needs}
@@ -11,7 +12,8 @@ use Rattle.plan.proofs.history.is_done_in_turn.Statement.{statement}
 use Rattle.plan.proofs.history.is_done_in_turn.Tie as tie
 
 abbrev Inv-loop : tie.InvT-loop
-Inv-loop len a b history n seen₀ i₀ seen i = doneInTurn (take len history) a b ≡ ((seen && doneIn (drop i (take len history)) b) || doneInTurn (drop i (take len history)) a b)
+Inv-loop len a b history n seen₀ i₀ seen i =
+    doneInTurn (take len history) a b ≡ ((seen && doneIn (drop i (take len history)) b) || doneInTurn (drop i (take len history)) a b)
 
 abbrev μ-loop : tie.MeasureT-loop
 μ-loop len a b history n seen₀ i₀ seen i = n - i

@@ -1,4 +1,5 @@
--- `is_listed` meets its contract. The loop's invariant: the lines pass if what is left of them lists the fate where it is still due, and else not.
+-- `is_listed` meets its contract. The loop's invariant: the lines pass if what is left of them lists the fate where
+-- it is still due, and else not.
 use Prim.Native.Nat.{_-_}
 use native.Mathlib.Omega.{arith}
 use borrow.Author.Needs.{needs}
@@ -11,7 +12,8 @@ use Rattle.plan.proofs.history.is_listed.Statement.{statement}
 use Rattle.plan.proofs.history.is_listed.Tie as tie
 
 abbrev Inv-loop : tie.InvT-loop
-Inv-loop len event fate history n due₀ i₀ due i = sameFates (fatesIn (take len history) event) (fateIf (isSettled fate) fate) ≡ sameFates (fatesIn (drop i (take len history)) event) (fateIf due fate)
+Inv-loop len event fate history n due₀ i₀ due i =
+    sameFates (fatesIn (take len history) event) (fateIf (isSettled fate) fate) ≡ sameFates (fatesIn (drop i (take len history)) event) (fateIf due fate)
 
 abbrev μ-loop : tie.MeasureT-loop
 μ-loop len event fate history n due₀ i₀ due i = n - i

@@ -53,7 +53,8 @@ returns-2 c = λ p. simp (c .before .before .before .rule2 .given .1, c .is-gone
 
 returns-3 : tie.Need-returns-3
 unfolding bars
-returns-3 c = λ p. simp (c .before .before .before .before .before .before .before .rule3 .given .1, c .is-done3 .ensures, c .before .fate-in5 .ensures, c .before .before .is-done2 .ensures, c .before .before .before .fate-in4 .ensures, c .before .before .before .before .is-gone2 .ensures, c .before .before .before .before .before .fate-in3 .ensures)
+returns-3 c =
+    λ p. simp (c .before .before .before .before .before .before .before .rule3 .given .1, c .is-done3 .ensures, c .before .fate-in5 .ensures, c .before .before .is-done2 .ensures, c .before .before .before .fate-in4 .ensures, c .before .before .before .before .is-gone2 .ensures, c .before .before .before .before .before .fate-in3 .ensures)
 
 pub does-bar-spec : {M : Type 1} → statement M
 does-bar-spec =

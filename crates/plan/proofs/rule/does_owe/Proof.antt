@@ -49,11 +49,13 @@ returns c = λ p. simp (c .before .rule .given .1)
 
 returns-2 : tie.Need-returns-2
 unfolding owes
-returns-2 c = λ p. simp (c .before .before .before .before .before .rule2 .given .1, c .is-settled .ensures, c .before .fate-in2 .ensures, c .before .before .is-done .ensures, c .before .before .before .fate-in .ensures)
+returns-2 c =
+    λ p. simp (c .before .before .before .before .before .rule2 .given .1, c .is-settled .ensures, c .before .fate-in2 .ensures, c .before .before .is-done .ensures, c .before .before .before .fate-in .ensures)
 
 returns-3 : tie.Need-returns-3
 unfolding owes
-returns-3 c = λ p. simp (c .before .before .before .before .before .before .before .rule3 .given .1, c .is-settled2 .ensures, c .before .fate-in5 .ensures, c .before .before .is-done3 .ensures, c .before .before .before .fate-in4 .ensures, c .before .before .before .before .is-done2 .ensures, c .before .before .before .before .before .fate-in3 .ensures)
+returns-3 c =
+    λ p. simp (c .before .before .before .before .before .before .before .rule3 .given .1, c .is-settled2 .ensures, c .before .fate-in5 .ensures, c .before .before .is-done3 .ensures, c .before .before .before .fate-in4 .ensures, c .before .before .before .before .is-done2 .ensures, c .before .before .before .before .before .fate-in3 .ensures)
 
 pub does-owe-spec : {M : Type 1} → statement M
 does-owe-spec =

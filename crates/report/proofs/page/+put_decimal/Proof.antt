@@ -42,7 +42,8 @@ module _ (t : ℕ) where
   put-decimal-returns c = put-as (sym (decimal-one _ (c .if1 .taken))) (put-byte _ _ _)
 
   put-decimal-put-decimal-requires : put-decimal-lts.Need-put-decimal-requires (claims t) (put-decimal-at t) put-decimal.Post
-  put-decimal-put-decimal-requires c κs = (omega arith, omega (arith, length-more (c .before .before .args .x) (c .before .if1 .left)))
+  put-decimal-put-decimal-requires c κs =
+      (omega arith, omega (arith, length-more (c .before .before .args .x) (c .before .if1 .left)))
 
   put-decimal-cast-page-2 : put-decimal-lts.Need-cast-page-2 (claims t) (put-decimal-at t) put-decimal.Post
   put-decimal-cast-page-2 c = omega arith
@@ -51,13 +52,16 @@ module _ (t : ℕ) where
   put-decimal-add-page-2 c = omega arith
 
   put-decimal-element-write-page-2 : put-decimal-lts.Need-element-write-page-2 (claims t) (put-decimal-at t) put-decimal.Post
-  put-decimal-element-write-page-2 c = omega (arith, length-more (c .before .before .before .args .x) (c .before .before .if1 .left))
+  put-decimal-element-write-page-2 c =
+      omega (arith, length-more (c .before .before .before .args .x) (c .before .before .if1 .left))
 
   put-decimal-add-result-2 : put-decimal-lts.Need-add-result-2 (claims t) (put-decimal-at t) put-decimal.Post
-  put-decimal-add-result-2 c = omega (arith, length-more (c .before .before .before .args .x) (c .before .before .if1 .left))
+  put-decimal-add-result-2 c =
+      omega (arith, length-more (c .before .before .before .args .x) (c .before .before .if1 .left))
 
   put-decimal-returns-2 : put-decimal-lts.Need-returns-2 (claims t) (put-decimal-at t) put-decimal.Post
-  put-decimal-returns-2 c = put-as (sym (decimal-more _ (c .before .before .if1 .left))) (put-then (c .put-decimal .ensures) (put-byte _ _ _))
+  put-decimal-returns-2 c =
+      put-as (sym (decimal-more _ (c .before .before .if1 .left))) (put-then (c .put-decimal .ensures) (put-byte _ _ _))
 
 pub +put-decimal-spec : {M : Type 1} → statement M
 +put-decimal-spec = close μ-put-decimal λ t. put-decimal-lts.spec (claims t)

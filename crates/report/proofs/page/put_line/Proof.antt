@@ -9,13 +9,23 @@ use Rattle.report.proofs.page.put_line.Statement.{statement}
 use Rattle.report.proofs.page.put_line.Tie as tie
 
 put-count-requires : tie.Need-put-count-requires
-put-count-requires c κs = room-first (c .before .before .args .word .now ++ decimal (c .before .before .args .x)) (10 ∷ []) refl _ (c .before .before .pre)
+put-count-requires c κs =
+    room-first
+    (c .before .before .args .word .now ++ decimal (c .before .before .args .x))
+    (10 ∷ []) refl _
+    (c .before .before .pre)
 
 slice-aggregate-put-word : tie.Need-slice-aggregate-put-word
 slice-aggregate-put-word c = search needs
 
 put-word-requires : tie.Need-put-word-requires
-put-word-requires c κs = room-then (c .before .before .before .before .before .args .word .now ++ decimal (c .before .before .before .before .before .args .x)) (10 ∷ []) refl (c .before .before .before .before .before .args .at) _ (c .before .before .before .before .before .pre) (c .before .before .put-count .ensures .ends)
+put-word-requires c κs =
+    room-then
+    (c .before .before .before .before .before .args .word .now ++ decimal (c .before .before .before .before .before .args .x))
+    (10 ∷ []) refl
+    (c .before .before .before .before .before .args .at) _
+    (c .before .before .before .before .before .pre)
+    (c .before .before .put-count .ensures .ends)
 
 returns : tie.Need-returns
 returns c = put-then (c .before .before .before .put-count .ensures) (c .put-word .ensures)

@@ -10,13 +10,31 @@ cast-put-decimal : tie.Need-cast-put-decimal
 cast-put-decimal c = search needs
 
 put-decimal-requires : tie.Need-put-decimal-requires
-put-decimal-requires c κs = room-first (decimal (c .before .before .args .entry .event)) (fateEnd (c .before .before .args .entry .fate)) (entry-split (c .before .before .args .entry)) _ (c .before .before .pre)
+put-decimal-requires c κs =
+    room-first
+    (decimal (c .before .before .args .entry .event))
+    (fateEnd (c .before .before .args .entry .fate))
+    (entry-split (c .before .before .args .entry)) _
+    (c .before .before .pre)
 
 put-fate-requires : tie.Need-put-fate-requires
-put-fate-requires c κs = room-then (decimal (c .before .before .before .before .args .entry .event)) (fateEnd (c .before .before .before .before .args .entry .fate)) (entry-split (c .before .before .before .before .args .entry)) (c .before .before .before .before .args .at) _ (c .before .before .before .before .pre) (c .before .put-decimal .ensures .ends)
+put-fate-requires c κs =
+    room-then
+    (decimal (c .before .before .before .before .args .entry .event))
+    (fateEnd (c .before .before .before .before .args .entry .fate))
+    (entry-split (c .before .before .before .before .args .entry))
+    (c .before .before .before .before .args .at) _
+    (c .before .before .before .before .pre)
+    (c .before .put-decimal .ensures .ends)
 
 returns : tie.Need-returns
-returns c = put-both (decimal (c .before .before .before .before .before .args .entry .event)) (fateEnd (c .before .before .before .before .before .args .entry .fate)) (entry-split (c .before .before .before .before .before .args .entry)) (c .before .before .put-decimal .ensures) (c .put-fate .ensures)
+returns c =
+    put-both
+    (decimal (c .before .before .before .before .before .args .entry .event))
+    (fateEnd (c .before .before .before .before .before .args .entry .fate))
+    (entry-split (c .before .before .before .before .before .args .entry))
+    (c .before .before .put-decimal .ensures)
+    (c .put-fate .ensures)
 
 pub put-entry-spec : {M : Type 1} → statement M
 put-entry-spec =

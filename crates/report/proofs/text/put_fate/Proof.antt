@@ -23,7 +23,8 @@ slice-aggregate-put-word-2 : tie.Need-slice-aggregate-put-word-2
 slice-aggregate-put-word-2 c = search needs
 
 put-word-requires-2 : tie.Need-put-word-requires-2
-put-word-requires-2 c κs = fate-room _ (c .before .before .enum-told2 .given .1) (c .before .before .before .before .pre)
+put-word-requires-2 c κs =
+    fate-room _ (c .before .before .enum-told2 .given .1) (c .before .before .before .before .pre)
 
 enum-told-3 : tie.Need-enum-told-3
 enum-told-3 c = search needs
@@ -32,7 +33,8 @@ slice-aggregate-put-word-3 : tie.Need-slice-aggregate-put-word-3
 slice-aggregate-put-word-3 c = search needs
 
 put-word-requires-3 : tie.Need-put-word-requires-3
-put-word-requires-3 c κs = fate-room _ (c .before .before .enum-told3 .given .1) (c .before .before .before .before .pre)
+put-word-requires-3 c κs =
+    fate-room _ (c .before .before .enum-told3 .given .1) (c .before .before .before .before .pre)
 
 enum-told-4 : tie.Need-enum-told-4
 enum-told-4 c = search needs
@@ -41,7 +43,8 @@ slice-aggregate-put-word-4 : tie.Need-slice-aggregate-put-word-4
 slice-aggregate-put-word-4 c = search needs
 
 put-word-requires-4 : tie.Need-put-word-requires-4
-put-word-requires-4 c κs = fate-room _ (c .before .before .enum-told4 .given .1) (c .before .before .before .before .pre)
+put-word-requires-4 c κs =
+    fate-room _ (c .before .before .enum-told4 .given .1) (c .before .before .before .before .pre)
 
 enum-told-5 : tie.Need-enum-told-5
 enum-told-5 c = search needs
@@ -50,7 +53,8 @@ slice-aggregate-put-word-5 : tie.Need-slice-aggregate-put-word-5
 slice-aggregate-put-word-5 c = search needs
 
 put-word-requires-5 : tie.Need-put-word-requires-5
-put-word-requires-5 c κs = fate-room _ (c .before .before .enum-told5 .given .1) (c .before .before .before .before .pre)
+put-word-requires-5 c κs =
+    fate-room _ (c .before .before .enum-told5 .given .1) (c .before .before .before .before .pre)
 
 returns : tie.Need-returns
 returns c = put-as (ap fateEnd (sym (c .before .before .before .enum-told .given .1))) (c .put-word .ensures)

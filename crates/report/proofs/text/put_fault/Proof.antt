@@ -14,16 +14,35 @@ sheet-fault-number-requires : tie.Need-sheet-fault-number-requires
 sheet-fault-number-requires c κs = search needs
 
 put-count-requires : tie.Need-put-count-requires
-put-count-requires c κs = room-first (refusedLead ++ decimal (c .sheet-fault-number .result)) (line (atLead ++ decimal (c .before .before .before .args .offset))) (fault-is (c .before .before .before .args .fault) (c .before .before .before .args .offset) (c .sheet-fault-number .result) (c .sheet-fault-number .ensures)) 0 (omega arith)
+put-count-requires c κs =
+    room-first
+    (refusedLead ++ decimal (c .sheet-fault-number .result))
+    (line (atLead ++ decimal (c .before .before .before .args .offset)))
+    (fault-is (c .before .before .before .args .fault) (c .before .before .before .args .offset) (c .sheet-fault-number .result) (c .sheet-fault-number .ensures))
+    0
+    (omega arith)
 
 slice-aggregate-put-line : tie.Need-slice-aggregate-put-line
 slice-aggregate-put-line c = search needs
 
 put-line-requires : tie.Need-put-line-requires
-put-line-requires c κs = room-then (refusedLead ++ decimal (c .before .before .before .sheet-fault-number .result)) (line (atLead ++ decimal (c .before .before .before .before .before .before .args .offset))) (fault-is (c .before .before .before .before .before .before .args .fault) (c .before .before .before .before .before .before .args .offset) (c .before .before .before .sheet-fault-number .result) (c .before .before .before .sheet-fault-number .ensures)) 0 _ (omega arith) (c .before .before .put-count .ensures .ends)
+put-line-requires c κs =
+    room-then
+    (refusedLead ++ decimal (c .before .before .before .sheet-fault-number .result))
+    (line (atLead ++ decimal (c .before .before .before .before .before .before .args .offset)))
+    (fault-is (c .before .before .before .before .before .before .args .fault) (c .before .before .before .before .before .before .args .offset) (c .before .before .before .sheet-fault-number .result) (c .before .before .before .sheet-fault-number .ensures))
+    0 _
+    (omega arith)
+    (c .before .before .put-count .ensures .ends)
 
 returns : tie.Need-returns
-returns c = put-both (refusedLead ++ decimal (c .before .before .before .before .sheet-fault-number .result)) (line (atLead ++ decimal (c .before .before .before .before .before .before .before .args .offset))) (fault-is (c .before .before .before .before .before .before .before .args .fault) (c .before .before .before .before .before .before .before .args .offset) (c .before .before .before .before .sheet-fault-number .result) (c .before .before .before .before .sheet-fault-number .ensures)) (c .before .before .before .put-count .ensures) (c .put-line .ensures)
+returns c =
+    put-both
+    (refusedLead ++ decimal (c .before .before .before .before .sheet-fault-number .result))
+    (line (atLead ++ decimal (c .before .before .before .before .before .before .before .args .offset)))
+    (fault-is (c .before .before .before .before .before .before .before .args .fault) (c .before .before .before .before .before .before .before .args .offset) (c .before .before .before .before .sheet-fault-number .result) (c .before .before .before .before .sheet-fault-number .ensures))
+    (c .before .before .before .put-count .ensures)
+    (c .put-line .ensures)
 
 pub put-fault-spec : {M : Type 1} → statement M
 put-fault-spec =

@@ -10,16 +10,34 @@ slice-aggregate-put-count : tie.Need-slice-aggregate-put-count
 slice-aggregate-put-count c = search needs
 
 put-count-requires : tie.Need-put-count-requires
-put-count-requires c κs = room-first (eventsLead ++ decimal (c .before .before .args .events)) (line (rulesLead ++ decimal (c .before .before .args .rules))) (head-split (c .before .before .args .events) (c .before .before .args .rules)) _ (c .before .before .pre)
+put-count-requires c κs =
+    room-first
+    (eventsLead ++ decimal (c .before .before .args .events))
+    (line (rulesLead ++ decimal (c .before .before .args .rules)))
+    (head-split (c .before .before .args .events) (c .before .before .args .rules)) _
+    (c .before .before .pre)
 
 slice-aggregate-put-line : tie.Need-slice-aggregate-put-line
 slice-aggregate-put-line c = search needs
 
 put-line-requires : tie.Need-put-line-requires
-put-line-requires c κs = room-then (eventsLead ++ decimal (c .before .before .before .before .before .args .events)) (line (rulesLead ++ decimal (c .before .before .before .before .before .args .rules))) (head-split (c .before .before .before .before .before .args .events) (c .before .before .before .before .before .args .rules)) (c .before .before .before .before .before .args .at) _ (c .before .before .before .before .before .pre) (c .before .before .put-count .ensures .ends)
+put-line-requires c κs =
+    room-then
+    (eventsLead ++ decimal (c .before .before .before .before .before .args .events))
+    (line (rulesLead ++ decimal (c .before .before .before .before .before .args .rules)))
+    (head-split (c .before .before .before .before .before .args .events) (c .before .before .before .before .before .args .rules))
+    (c .before .before .before .before .before .args .at) _
+    (c .before .before .before .before .before .pre)
+    (c .before .before .put-count .ensures .ends)
 
 returns : tie.Need-returns
-returns c = put-both (eventsLead ++ decimal (c .before .before .before .before .before .before .args .events)) (line (rulesLead ++ decimal (c .before .before .before .before .before .before .args .rules))) (head-split (c .before .before .before .before .before .before .args .events) (c .before .before .before .before .before .before .args .rules)) (c .before .before .before .put-count .ensures) (c .put-line .ensures)
+returns c =
+    put-both
+    (eventsLead ++ decimal (c .before .before .before .before .before .before .args .events))
+    (line (rulesLead ++ decimal (c .before .before .before .before .before .before .args .rules)))
+    (head-split (c .before .before .before .before .before .before .args .events) (c .before .before .before .before .before .before .args .rules))
+    (c .before .before .before .put-count .ensures)
+    (c .put-line .ensures)
 
 pub put-head-spec : {M : Type 1} → statement M
 put-head-spec =

@@ -33,7 +33,16 @@ array-copy-out-entry : tie.Need-array-copy-out-entry Inv-loop μ-loop
 array-copy-out-entry c = omega arith
 
 put-entry-requires : tie.Need-put-entry-requires Inv-loop μ-loop
-put-entry-requires c κs = lines-room (c .before .before .before .before .before .args .t3) (c .before .before .before .before .before .args .len) (c .before .before .before .before .before .good .1 .1 .0 .1 .0 .1) (c .before .before .before .before .before .args .at) _ (c .before .before .before .loop .i) (omega arith) (c .before .before .before .before .before .pre) (c .before .before .before .loop .inv .1 .ends)
+put-entry-requires c κs =
+    lines-room
+    (c .before .before .before .before .before .args .t3)
+    (c .before .before .before .before .before .args .len)
+    (c .before .before .before .before .before .good .1 .1 .0 .1 .0 .1)
+    (c .before .before .before .before .before .args .at) _
+    (c .before .before .before .loop .i)
+    (omega arith)
+    (c .before .before .before .before .before .pre)
+    (c .before .before .before .loop .inv .1 .ends)
 
 add-i : tie.Need-add-i Inv-loop μ-loop
 add-i c = omega arith
@@ -42,10 +51,15 @@ loop-less : tie.Need-loop-less Inv-loop μ-loop
 loop-less c = omega arith
 
 loop-again : tie.Need-loop-again Inv-loop μ-loop
-loop-again c = (omega arith, put-as (sym (lines-next (c .before .before .before .before .before .before .args .t3) (c .before .before .before .before .before .before .args .len) (c .before .before .before .before .before .before .good .1 .1 .0 .1 .0 .1) (c .before .before .before .before .loop .i) (omega arith))) (put-then (c .before .before .before .before .loop .inv .1) (c .put-entry .ensures)))
+loop-again c =
+    (omega arith, put-as (sym (lines-next (c .before .before .before .before .before .before .args .t3) (c .before .before .before .before .before .before .args .len) (c .before .before .before .before .before .before .good .1 .1 .0 .1 .0 .1) (c .before .before .before .before .loop .i) (omega arith))) (put-then (c .before .before .before .before .loop .inv .1) (c .put-entry .ensures)))
 
 returns : tie.Need-returns Inv-loop μ-loop
-returns c = let e : c .before .loop .i ≡ min (c .before .before .before .args .len) 16 = omega arith in put-as (ap (λ (k : ℕ). historyLines (take k (c .before .before .before .args .t3))) e ∙ lines-all (c .before .before .before .args .t3) (c .before .before .before .args .len) (c .before .before .before .good .1 .1 .0 .1 .0 .1)) (c .before .loop .inv .1)
+returns c =
+    let e : c .before .loop .i ≡ min (c .before .before .before .args .len) 16 = omega arith in
+    put-as
+    (ap (λ (k : ℕ). historyLines (take k (c .before .before .before .args .t3))) e ∙ lines-all (c .before .before .before .args .t3) (c .before .before .before .args .len) (c .before .before .before .good .1 .1 .0 .1 .0 .1))
+    (c .before .loop .inv .1)
 
 pub put-history-spec : {M : Type 1} → statement M
 put-history-spec =

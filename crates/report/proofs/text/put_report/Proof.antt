@@ -10,13 +10,15 @@ enum-told : tie.Need-enum-told
 enum-told c = search needs
 
 put-state-requires : tie.Need-put-state-requires
-put-state-requires c κs = rw (report-admitted (c .before .before .before .before .args .outcome) (c .before .enum-told .given .1)) at (c .before .before .before .before .pre)
+put-state-requires c κs =
+    rw (report-admitted (c .before .before .before .before .args .outcome) (c .before .enum-told .given .1)) at (c .before .before .before .before .pre)
 
 enum-known-verdict : tie.Need-enum-known-verdict
 enum-known-verdict c = search needs
 
 put-fault-requires : tie.Need-put-fault-requires
-put-fault-requires c κs = rw (report-faulty (c .before .before .before .before .before .args .outcome) _ _ (c .before .before .verdict .given .1)) at (c .before .before .before .before .before .pre)
+put-fault-requires c κs =
+    rw (report-faulty (c .before .before .before .before .before .args .outcome) _ _ (c .before .before .verdict .given .1)) at (c .before .before .before .before .before .pre)
 
 returns : tie.Need-returns
 returns c = put-as (sym (report-admitted _ (c .before .before .enum-told .given .1))) (c .put-state .ensures)

@@ -1,4 +1,5 @@
--- `search` meets its contract. What falls: the places left. The loop: what is left of it from x on is the whole answer.
+-- `search` meets its contract. What falls: the places left. The loop: what is left of it from x on is the whole
+-- answer.
 use borrow.Author.Tests.{not-true, not-false}
 use native.Mathlib.Omega.{arith}
 use mathlib.Core.Logic.{⊎-elim}
@@ -32,17 +33,25 @@ abbrev search-μ-loop : search-lts.MeasureT-loop
 search-μ-loop s event had at places none n x₀ x = n - x
 
 abbrev claims : ℕ → search-lts.Claims
-claims t = (is-owing-reads.Asked, is-owing-reads.Learnt, may-do-reads.Asked, may-do-reads.Learnt, do-one-reads.Asked, do-one-reads.Learnt, search-below t, search′.Post)
+claims t =
+    (is-owing-reads.Asked, is-owing-reads.Learnt, may-do-reads.Asked, may-do-reads.Learnt, do-one-reads.Asked, do-one-reads.Learnt, search-below t, search′.Post)
 
 module _ (t : ℕ) where
   search-is-owing-requires : search-lts.Need-is-owing-requires (claims t) (search-at t) search′.Post search-Inv-loop search-μ-loop
   search-is-owing-requires c κs = tt
 
   search-returns : search-lts.Need-returns (claims t) (search-at t) search′.Post search-Inv-loop search-μ-loop
-  search-returns c = end-found _ _ _ _ _ (c .before .before .before .if1 .taken) (c .before .before .if2 .taken) (sym (c .before .is-owing .ensures) ∙ not-true _ (c .if3 .taken))
+  search-returns c =
+      end-found _ _ _ _ _
+      (c .before .before .before .if1 .taken)
+      (c .before .before .if2 .taken)
+      (sym (c .before .is-owing .ensures) ∙ not-true _ (c .if3 .taken))
 
   search-returns-2 : search-lts.Need-returns-2 (claims t) (search-at t) search′.Post search-Inv-loop search-μ-loop
-  search-returns-2 c = end-owing _ _ _ _ _ (c .before .before .before .if1 .taken) (sym (c .before .is-owing .ensures) ∙ not-false _ (c .if3 .left))
+  search-returns-2 c =
+      end-owing _ _ _ _ _
+      (c .before .before .before .if1 .taken)
+      (sym (c .before .is-owing .ensures) ∙ not-false _ (c .if3 .left))
 
   search-returns-3 : search-lts.Need-returns-3 (claims t) (search-at t) search′.Post search-Inv-loop search-μ-loop
   search-returns-3 c = end-without _ _ _ _ _ (c .before .if1 .taken) (c .if2 .left)

@@ -1,4 +1,5 @@
--- `add_events` meets its contract. The loop's invariant: i events are added, and the rest of the table's added after them make the whole.
+-- `add_events` meets its contract. The loop's invariant: i events are added, and the rest of the table's added after
+-- them make the whole.
 use Rattle.sheet.proofs.RecordLaws.{add-next, count-next, all-added}
 use Prim.Native.Nat.{_+_, _-_, _≤_}
 use mathlib.Core.Path.{_≡_, refl, ap, _∙_}

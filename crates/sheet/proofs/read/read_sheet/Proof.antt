@@ -1,4 +1,5 @@
--- `read_sheet` meets its contract: a walk of its MIR, by hand. A reader stands in a local over the loop's turns: each turn takes the record at its place and moves it past the record.
+-- `read_sheet` meets its contract: a walk of its MIR, by hand. A reader stands in a local over the loop's turns: each
+-- turn takes the record at its place and moves it past the record.
 use mathlib.Core.Path.{_≡_, refl}
 use mathlib.Core.WellFounded.{WellFounded, InvImage·wf}
 use lib.WfN.{Nat·lt-wfRel}

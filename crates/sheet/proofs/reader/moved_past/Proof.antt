@@ -1,4 +1,5 @@
--- `moved_past` meets its contract: a walk of its MIR, by hand. A reader is made anew of the slice that the one passed holds, and of the number that `place_after` answers.
+-- `moved_past` meets its contract: a walk of its MIR, by hand. A reader is made anew of the slice that the one passed
+-- holds, and of the number that `place_after` answers.
 use mathlib.Core.Path.{refl}
 use Prim.Native.Nat.{ℕ, _<_, _^_}
 use mathlib.Core.List.{[], _∷_}

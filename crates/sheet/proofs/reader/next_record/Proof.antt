@@ -1,4 +1,5 @@
--- `next_record` meets its contract: a walk of its MIR, by hand. The reader is taken apart, and `record_at` is called on the slice and the number.
+-- `next_record` meets its contract: a walk of its MIR, by hand. The reader is taken apart, and `record_at` is called
+-- on the slice and the number.
 use mathlib.Core.Path.{refl}
 use Prim.Native.Nat.{_<_, _^_}
 use mathlib.Core.List.{[], _∷_}

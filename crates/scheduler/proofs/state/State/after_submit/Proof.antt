@@ -15,7 +15,8 @@ is-open-requires : tie.Need-is-open-requires
 is-open-requires c κs = search needs
 
 returns : tie.Need-returns
-returns c = hand-same _ _ _ (c .before .is-open .ensures ∙ ap isOpen (c .before .before .fate-in .ensures)) (c .if1 .taken)
+returns c =
+    hand-same _ _ _ (c .before .is-open .ensures ∙ ap isOpen (c .before .before .fate-in .ensures)) (c .if1 .taken)
 
 hold-requires : tie.Need-hold-requires
 hold-requires c κs = search needs
@@ -30,7 +31,15 @@ settle-requires : tie.Need-settle-requires
 settle-requires c κs = search needs
 
 returns-2 : tie.Need-returns-2
-returns-2 c = hand-delayed _ _ _ (c .before .before .before .before .before .before .is-open .ensures ∙ ap isOpen (c .before .before .before .before .before .before .before .fate-in .ensures)) _ _ _ (c .before .before .before .before .before .if1 .left) (c .before .before .before .before .hold .ensures) (c .before .before .is-delayable .ensures ∙ ap (λ (v : Event). holdsBit 4 (v .attributes)) (c .before .before .before .event-in .ensures)) (c .before .if2 .taken) (c .settle .ensures)
+returns-2 c =
+    hand-delayed _ _ _
+    (c .before .before .before .before .before .before .is-open .ensures ∙ ap isOpen (c .before .before .before .before .before .before .before .fate-in .ensures))
+    _ _ _
+    (c .before .before .before .before .before .if1 .left)
+    (c .before .before .before .before .hold .ensures)
+    (c .before .before .is-delayable .ensures ∙ ap (λ (v : Event). holdsBit 4 (v .attributes)) (c .before .before .before .event-in .ensures))
+    (c .before .if2 .taken)
+    (c .settle .ensures)
 
 decide-requires : tie.Need-decide-requires
 decide-requires c κs = search needs
@@ -39,7 +48,17 @@ settle-requires-2 : tie.Need-settle-requires-2
 settle-requires-2 c κs = search needs
 
 returns-3 : tie.Need-returns-3
-returns-3 c = hand-decided _ _ _ (c .before .before .before .before .before .before .before .is-open .ensures ∙ ap isOpen (c .before .before .before .before .before .before .before .before .fate-in .ensures)) _ _ _ (c .before .before .before .before .before .before .if1 .left) (c .before .before .before .before .before .hold .ensures) (c .before .before .before .is-delayable .ensures ∙ ap (λ (v : Event). holdsBit 4 (v .attributes)) (c .before .before .before .before .event-in .ensures)) _ (c .before .before .if2 .left) (c .before .decide .ensures) (c .settle2 .ensures)
+returns-3 c =
+    hand-decided _ _ _
+    (c .before .before .before .before .before .before .before .is-open .ensures ∙ ap isOpen (c .before .before .before .before .before .before .before .before .fate-in .ensures))
+    _ _ _
+    (c .before .before .before .before .before .before .if1 .left)
+    (c .before .before .before .before .before .hold .ensures)
+    (c .before .before .before .is-delayable .ensures ∙ ap (λ (v : Event). holdsBit 4 (v .attributes)) (c .before .before .before .before .event-in .ensures))
+    _
+    (c .before .before .if2 .left)
+    (c .before .decide .ensures)
+    (c .settle2 .ensures)
 
 pub after-submit-spec : {M : Type 1} → statement M
 after-submit-spec =

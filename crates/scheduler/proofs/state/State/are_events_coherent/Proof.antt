@@ -15,7 +15,8 @@ use Rattle.scheduler.proofs.state.State.are_events_coherent.Statement.{
 use Rattle.scheduler.proofs.state.State.are_events_coherent.Tie as tie
 
 abbrev Inv-loop : tie.InvT-loop
-Inv-loop event-count events standings closed history len i₀ i = (i ≤ event-count) × ((k : ℕ) → k < i → eventTest events standings closed history len k ≡ true)
+Inv-loop event-count events standings closed history len i₀ i =
+    (i ≤ event-count) × ((k : ℕ) → k < i → eventTest events standings closed history len k ≡ true)
 
 abbrev μ-loop : tie.MeasureT-loop
 μ-loop event-count events standings closed history len i₀ i = event-count - i
@@ -54,7 +55,8 @@ loop-less : tie.Need-loop-less Inv-loop μ-loop
 loop-less c = search needs
 
 loop-again : tie.Need-loop-again Inv-loop μ-loop
-loop-again c = (omega arith, below-more _ _ (c .before .before .before .before .before .before .before .before .loop .inv .1) (not-false _ (simp (c .before .may-be-open .ensures, c .before .before .may-be-held .ensures, c .before .before .before .is-listed .ensures, c .before .before .before .before .is-sound .ensures, c .before .before .before .before .before .fate-in .ensures, c .before .before .before .before .before .before .event-in .ensures) at (c .if1 .left))))
+loop-again c =
+    (omega arith, below-more _ _ (c .before .before .before .before .before .before .before .before .loop .inv .1) (not-false _ (simp (c .before .may-be-open .ensures, c .before .before .may-be-held .ensures, c .before .before .before .is-listed .ensures, c .before .before .before .before .is-sound .ensures, c .before .before .before .before .before .fate-in .ensures, c .before .before .before .before .before .before .event-in .ensures) at (c .if1 .left))))
 
 returns-2 : tie.Need-returns-2 Inv-loop μ-loop
 returns-2 c =

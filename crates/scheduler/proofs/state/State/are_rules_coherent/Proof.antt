@@ -17,7 +17,8 @@ use Rattle.scheduler.proofs.state.State.are_rules_coherent.Statement.{s
 use Rattle.scheduler.proofs.state.State.are_rules_coherent.Tie as tie
 
 abbrev Inv-loop : tie.InvT-loop
-Inv-loop event-count rule-count events rules standings broken history len i₀ i = (i ≤ rule-count) × ((p : Plan) → p .events ≡ events → (k : ℕ) → k < i → ruleTest p event-count standings history len (readAt 16 broken k false) (readAt 16 rules k blankRule .rule) ≡ true)
+Inv-loop event-count rule-count events rules standings broken history len i₀ i =
+    (i ≤ rule-count) × ((p : Plan) → p .events ≡ events → (k : ℕ) → k < i → ruleTest p event-count standings history len (readAt 16 broken k false) (readAt 16 rules k blankRule .rule) ≡ true)
 
 abbrev μ-loop : tie.MeasureT-loop
 μ-loop event-count rule-count events rules standings broken history len i₀ i = rule-count - i
@@ -50,7 +51,8 @@ loop-less : tie.Need-loop-less Inv-loop μ-loop
 loop-less c = search needs
 
 loop-again : tie.Need-loop-again Inv-loop μ-loop
-loop-again c = (omega arith, λ p same. below-more _ _ (c .before .before .before .before .before .before .loop .inv .1 p same) (not-false _ (simp (c .before .is-kept .ensures p, c .before .before .is-admitted .ensures p same, c .before .before .before .mark-in .ensures, c .before .before .before .before .rule-in .ensures) at (c .if1 .left))))
+loop-again c =
+    (omega arith, λ p same. below-more _ _ (c .before .before .before .before .before .before .loop .inv .1 p same) (not-false _ (simp (c .before .is-kept .ensures p, c .before .before .is-admitted .ensures p same, c .before .before .before .mark-in .ensures, c .before .before .before .before .rule-in .ensures) at (c .if1 .left))))
 
 returns-2 : tie.Need-returns-2 Inv-loop μ-loop
 returns-2 c =

@@ -1,3 +1,4 @@
+-- `State::break_rule` meets its contract.
 use Rattle.scheduler.specs.State.{breakRule}
 use borrow.Author.Tests.{lt-ltb, le-ltb}
 use borrow.Author.Needs.{needs}

@@ -26,13 +26,25 @@ settle-as-requires : tie.Need-settle-as-requires
 settle-as-requires c κs = search needs
 
 returns-2 : tie.Need-returns-2
-returns-2 c = decide-refused _ _ _ (c .before .before .before .before .before .find-order .ensures) _ _ (c .before .before .before .before .if1 .left) (c .before .before .is-rejectable .ensures ∙ ap (λ (v : Event). holdsBit 2 (v .attributes)) (c .before .before .before .event-in .ensures)) (c .before .if2 .taken) (c .settle-as .ensures)
+returns-2 c =
+    decide-refused _ _ _
+    (c .before .before .before .before .before .find-order .ensures) _ _
+    (c .before .before .before .before .if1 .left)
+    (c .before .before .is-rejectable .ensures ∙ ap (λ (v : Event). holdsBit 2 (v .attributes)) (c .before .before .before .event-in .ensures))
+    (c .before .if2 .taken)
+    (c .settle-as .ensures)
 
 do-alone-requires : tie.Need-do-alone-requires
 do-alone-requires c κs = search needs
 
 returns-3 : tie.Need-returns-3
-returns-3 c = decide-done _ _ _ (c .before .before .before .before .before .find-order .ensures) _ _ (c .before .before .before .before .if1 .left) (c .before .before .is-rejectable .ensures ∙ ap (λ (v : Event). holdsBit 2 (v .attributes)) (c .before .before .before .event-in .ensures)) (c .before .if2 .left) (c .do-alone .ensures)
+returns-3 c =
+    decide-done _ _ _
+    (c .before .before .before .before .before .find-order .ensures) _ _
+    (c .before .before .before .before .if1 .left)
+    (c .before .before .is-rejectable .ensures ∙ ap (λ (v : Event). holdsBit 2 (v .attributes)) (c .before .before .before .event-in .ensures))
+    (c .before .if2 .left)
+    (c .do-alone .ensures)
 
 pub decide-spec : {M : Type 1} → statement M
 decide-spec =

@@ -10,7 +10,8 @@ use Rattle.scheduler.proofs.state.State.do_alone.Statement.{statement}
 use Rattle.scheduler.proofs.state.State.do_alone.Tie as tie
 
 abbrev Inv-loop : tie.InvT-loop
-Inv-loop self event n after next₀ i₀ next i = (i ≤ n) × (after ≡ settleAs Done self event) × (recordBroken i self event after ≡ next)
+Inv-loop self event n after next₀ i₀ next i =
+    (i ≤ n) × (after ≡ settleAs Done self event) × (recordBroken i self event after ≡ next)
 
 abbrev μ-loop : tie.MeasureT-loop
 μ-loop self event n after next₀ i₀ next i = n - i

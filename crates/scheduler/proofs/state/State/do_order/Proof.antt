@@ -10,7 +10,8 @@ use Rattle.scheduler.proofs.state.State.do_order.Statement.{statement}
 use Rattle.scheduler.proofs.state.State.do_order.Tie as tie
 
 abbrev Inv-loop : tie.InvT-loop
-Inv-loop events len n next₀ i₀ next i = (n ≤ 6) × (length (take len events) ≡ n) × (doAll next₀ (take len events) ≡ doAll next (drop i (take len events)))
+Inv-loop events len n next₀ i₀ next i =
+    (n ≤ 6) × (length (take len events) ≡ n) × (doAll next₀ (take len events) ≡ doAll next (drop i (take len events)))
 
 abbrev μ-loop : tie.MeasureT-loop
 μ-loop events len n next₀ i₀ next i = n - i

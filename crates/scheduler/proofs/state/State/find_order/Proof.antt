@@ -18,7 +18,14 @@ search-requires : tie.Need-search-requires Inv-loop μ-loop
 search-requires c κs = omega arith
 
 returns : tie.Need-returns Inv-loop μ-loop
-returns c = longer-hit _ _ (c .before .before .before .loop .k) (omega arith) (c .before .before .before .loop .inv .1) (c .before .search .result) (c .before .search .ensures) (c .if1 .taken)
+returns c =
+    longer-hit _ _
+    (c .before .before .before .loop .k)
+    (omega arith)
+    (c .before .before .before .loop .inv .1)
+    (c .before .search .result)
+    (c .before .search .ensures)
+    (c .if1 .taken)
 
 add-k : tie.Need-add-k Inv-loop μ-loop
 add-k c = omega arith
@@ -27,7 +34,8 @@ loop-less : tie.Need-loop-less Inv-loop μ-loop
 loop-less c = omega arith
 
 loop-again : tie.Need-loop-again Inv-loop μ-loop
-loop-again c = (omega arith, longer-miss _ _ (c .before .before .before .loop .k) (omega arith) (c .before .before .before .loop .inv .1) (c .before .search .result) (c .before .search .ensures) (c .if1 .left))
+loop-again c =
+    (omega arith, longer-miss _ _ (c .before .before .before .loop .k) (omega arith) (c .before .before .before .loop .inv .1) (c .before .search .result) (c .before .search .ensures) (c .if1 .left))
 
 returns-2 : tie.Need-returns-2 Inv-loop μ-loop
 returns-2 c = longer-none _ _ (c .before .loop .k) (c .before .loop .inv .1) (omega arith)

@@ -13,7 +13,9 @@ turn-down-requires : tie.Need-turn-down-requires
 turn-down-requires c κs = search needs
 
 returns : tie.Need-returns
-returns c = c .turn-down .ensures ∙ call-incoherent _ _ (says-no _ _ (c .before .before .is-coherent .ensures) (c .before .if1 .taken))
+returns c =
+    c .turn-down .ensures
+    ∙ call-incoherent _ _ (says-no _ _ (c .before .before .is-coherent .ensures) (c .before .if1 .taken))
 
 has-unclosed-requires : tie.Need-has-unclosed-requires
 has-unclosed-requires c κs = search needs

@@ -10,7 +10,8 @@ use Rattle.scheduler.proofs.state.State.has_unclosed.Statement.{stateme
 use Rattle.scheduler.proofs.state.State.has_unclosed.Tie as tie
 
 abbrev Inv-loop : tie.InvT-loop
-Inv-loop plan closed step₀ step = (step ≤ 8) × (anyBelow step (λ k. hasEvent plan k && not (readAt 8 closed k false)) ≡ false)
+Inv-loop plan closed step₀ step =
+    (step ≤ 8) × (anyBelow step (λ k. hasEvent plan k && not (readAt 8 closed k false)) ≡ false)
 
 abbrev μ-loop : tie.MeasureT-loop
 μ-loop plan closed step₀ step = 8 - step
@@ -25,7 +26,11 @@ is-closed-in-requires : tie.Need-is-closed-in-requires Inv-loop μ-loop
 is-closed-in-requires c κs = tt
 
 returns : tie.Need-returns Inv-loop μ-loop
-returns c = some-hit _ _ _ (λ _. refl) _ (c .before .before .before .loop-test .taken) (rw (← c .before .before .has-event .ensures, ← c .before .is-closed-in .ensures) (c .if1 .taken))
+returns c =
+    some-hit _ _ _
+    (λ _. refl) _
+    (c .before .before .before .loop-test .taken)
+    (rw (← c .before .before .has-event .ensures, ← c .before .is-closed-in .ensures) (c .if1 .taken))
 
 add-step : tie.Need-add-step Inv-loop μ-loop
 add-step c = omega arith
@@ -34,7 +39,8 @@ loop-less : tie.Need-loop-less Inv-loop μ-loop
 loop-less c = omega arith
 
 loop-again : tie.Need-loop-again Inv-loop μ-loop
-loop-again c = (omega arith, none-next _ _ (c .before .before .before .before .loop .inv .1) (rw (← c .before .before .has-event .ensures, ← c .before .is-closed-in .ensures) (c .if1 .left)))
+loop-again c =
+    (omega arith, none-next _ _ (c .before .before .before .before .loop .inv .1) (rw (← c .before .before .has-event .ensures, ← c .before .is-closed-in .ensures) (c .if1 .left)))
 
 returns-2 : tie.Need-returns-2 Inv-loop μ-loop
 returns-2 c = none-all _ _ _ (λ _. refl) _ (c .before .loop .inv .0) (c .loop-test .left) (c .before .loop .inv .1)

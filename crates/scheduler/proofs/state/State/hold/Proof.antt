@@ -1,3 +1,4 @@
+-- `State::hold` meets its contract.
 use Rattle.scheduler.specs.State.{hold}
 use borrow.Author.Tests.{lt-ltb, le-ltb}
 use borrow.Author.Needs.{needs}

@@ -12,7 +12,8 @@ use Rattle.scheduler.proofs.state.State.is_barred.Statement.{statement}
 use Rattle.scheduler.proofs.state.State.is_barred.Tie as tie
 
 abbrev Inv-loop : tie.InvT-loop
-Inv-loop event rules standings broken n i₀ i = (i ≤ n) × ((p : Plan) → anyBelow i (barsIn p rules standings broken event) ≡ false)
+Inv-loop event rules standings broken n i₀ i =
+    (i ≤ n) × ((p : Plan) → anyBelow i (barsIn p rules standings broken event) ≡ false)
 
 abbrev μ-loop : tie.MeasureT-loop
 μ-loop event rules standings broken n i₀ i = n - i
@@ -31,7 +32,14 @@ does-bar-requires c κs = tt
 
 returns : tie.Need-returns Inv-loop μ-loop
 unfolding barred
-returns c = let a = c .before .before .before .before .before .before .before .before .before .before .args in some-hit _ (barsIn (a .self .plan) (a .self .plan .rules) (a .self .standings) (a .self .broken) (a .event)) _ (λ _. refl) _ (c .before .before .before .before .loop-test .taken) (rw (← c .before .before .before .mark-in .ensures, ← c .before .before .rule-in .ensures, ← c .before .does-bar .ensures (a .self .plan)) (c .if1 .taken))
+returns c =
+    let a = c .before .before .before .before .before .before .before .before .before .before .args in
+    some-hit _
+    (barsIn (a .self .plan) (a .self .plan .rules) (a .self .standings) (a .self .broken) (a .event))
+    _
+    (λ _. refl) _
+    (c .before .before .before .before .loop-test .taken)
+    (rw (← c .before .before .before .mark-in .ensures, ← c .before .before .rule-in .ensures, ← c .before .does-bar .ensures (a .self .plan)) (c .if1 .taken))
 
 add-i : tie.Need-add-i Inv-loop μ-loop
 add-i c = omega arith
@@ -40,7 +48,8 @@ loop-less : tie.Need-loop-less Inv-loop μ-loop
 loop-less c = omega arith
 
 loop-again : tie.Need-loop-again Inv-loop μ-loop
-loop-again c = (omega arith, λ p. none-next _ _ (c .before .before .before .before .before .loop .inv .1 p) (rw (← c .before .before .before .mark-in .ensures, ← c .before .before .rule-in .ensures, ← c .before .does-bar .ensures p) (c .if1 .left)))
+loop-again c =
+    (omega arith, λ p. none-next _ _ (c .before .before .before .before .before .loop .inv .1 p) (rw (← c .before .before .before .mark-in .ensures, ← c .before .before .rule-in .ensures, ← c .before .does-bar .ensures p) (c .if1 .left)))
 
 returns-2 : tie.Need-returns-2 Inv-loop μ-loop
 unfolding barred

@@ -12,19 +12,23 @@ are-declared-requires : tie.Need-are-declared-requires
 are-declared-requires c κs = search needs
 
 returns-2 : tie.Need-returns-2
-returns-2 c = sym (undeclared-fail (c .before .before .before .before .before .args .self) (c .before .before .if1 .left) (rw (c .before .are-declared .ensures) at (c .if2 .taken)))
+returns-2 c =
+    sym (undeclared-fail (c .before .before .before .before .before .args .self) (c .before .before .if1 .left) (rw (c .before .are-declared .ensures) at (c .if2 .taken)))
 
 are-events-coherent-requires : tie.Need-are-events-coherent-requires
 are-events-coherent-requires c κs = search needs
 
 returns-3 : tie.Need-returns-3
-returns-3 c = sym (events-fail (c .before .before .before .before .before .before .before .args .self) (c .before .before .before .before .if1 .left) (rw (c .before .before .before .are-declared .ensures) at (c .before .before .if2 .left)) (rw (c .before .are-events-coherent .ensures) at (c .if3 .taken)))
+returns-3 c =
+    sym (events-fail (c .before .before .before .before .before .before .before .args .self) (c .before .before .before .before .if1 .left) (rw (c .before .before .before .are-declared .ensures) at (c .before .before .if2 .left)) (rw (c .before .are-events-coherent .ensures) at (c .if3 .taken)))
 
 are-rules-coherent-requires : tie.Need-are-rules-coherent-requires
 are-rules-coherent-requires c κs = search needs
 
 returns-4 : tie.Need-returns-4
-returns-4 c = c .are-rules-coherent .ensures ∙ sym (rules-decide (c .before .before .before .before .before .before .before .before .args .self) (c .before .before .before .before .before .if1 .left) (rw (c .before .before .before .before .are-declared .ensures) at (c .before .before .before .if2 .left)) (rw (c .before .before .are-events-coherent .ensures) at (c .before .if3 .left)))
+returns-4 c =
+    c .are-rules-coherent .ensures
+    ∙ sym (rules-decide (c .before .before .before .before .before .before .before .before .args .self) (c .before .before .before .before .before .if1 .left) (rw (c .before .before .before .before .are-declared .ensures) at (c .before .before .before .if2 .left)) (rw (c .before .before .are-events-coherent .ensures) at (c .before .if3 .left)))
 
 pub is-coherent-spec : {M : Type 1} → statement M
 is-coherent-spec =

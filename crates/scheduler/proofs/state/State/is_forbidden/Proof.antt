@@ -13,7 +13,8 @@ use Rattle.scheduler.proofs.state.State.is_forbidden.Statement.{stateme
 use Rattle.scheduler.proofs.state.State.is_forbidden.Tie as tie
 
 abbrev Inv-loop : tie.InvT-loop
-Inv-loop event rules events standings broken n i₀ i = (i ≤ n) × ((p : Plan) → p .events ≡ events → anyBelow i (forbidsIn p rules standings broken event) ≡ false)
+Inv-loop event rules events standings broken n i₀ i =
+    (i ≤ n) × ((p : Plan) → p .events ≡ events → anyBelow i (forbidsIn p rules standings broken event) ≡ false)
 
 abbrev μ-loop : tie.MeasureT-loop
 μ-loop event rules events standings broken n i₀ i = n - i
@@ -35,7 +36,14 @@ makes-wait-requires c κs = tt
 
 returns : tie.Need-returns Inv-loop μ-loop
 unfolding forbids forbidden
-returns c = let a = c .before .before .before .before .before .before .before .before .before .before .before .before .args in some-hit _ (forbidsIn (a .self .plan) (a .self .plan .rules) (a .self .standings) (a .self .broken) (a .event)) _ (λ _. refl) _ (c .before .before .before .before .before .loop-test .taken) (rw (← c .before .before .before .mark-in .ensures, ← c .before .before .before .before .rule-in .ensures, ← c .before .before .does-bar .ensures (a .self .plan), ← c .before .makes-wait .ensures (a .self .plan) refl) (c .if1 .taken))
+returns c =
+    let a = c .before .before .before .before .before .before .before .before .before .before .before .before .args in
+    some-hit _
+    (forbidsIn (a .self .plan) (a .self .plan .rules) (a .self .standings) (a .self .broken) (a .event))
+    _
+    (λ _. refl) _
+    (c .before .before .before .before .before .loop-test .taken)
+    (rw (← c .before .before .before .mark-in .ensures, ← c .before .before .before .before .rule-in .ensures, ← c .before .before .does-bar .ensures (a .self .plan), ← c .before .makes-wait .ensures (a .self .plan) refl) (c .if1 .taken))
 
 add-i : tie.Need-add-i Inv-loop μ-loop
 add-i c = omega arith
@@ -45,11 +53,13 @@ loop-less c = omega arith
 
 loop-again : tie.Need-loop-again Inv-loop μ-loop
 unfolding forbids
-loop-again c = (omega arith, λ p same. none-next _ _ (c .before .before .before .before .before .before .loop .inv .1 p same) (rw (← c .before .before .before .mark-in .ensures, ← c .before .before .before .before .rule-in .ensures, ← c .before .before .does-bar .ensures p, ← c .before .makes-wait .ensures p same) (c .if1 .left)))
+loop-again c =
+    (omega arith, λ p same. none-next _ _ (c .before .before .before .before .before .before .loop .inv .1 p same) (rw (← c .before .before .before .mark-in .ensures, ← c .before .before .before .before .rule-in .ensures, ← c .before .before .does-bar .ensures p, ← c .before .makes-wait .ensures p same) (c .if1 .left)))
 
 returns-2 : tie.Need-returns-2 Inv-loop μ-loop
 unfolding forbidden
-returns-2 c = none-all _ _ _ (λ _. refl) _ (c .before .loop .inv .0) (c .loop-test .left) (c .before .loop .inv .1 _ refl)
+returns-2 c =
+    none-all _ _ _ (λ _. refl) _ (c .before .loop .inv .0) (c .loop-test .left) (c .before .loop .inv .1 _ refl)
 
 pub is-forbidden-spec : {M : Type 1} → statement M
 is-forbidden-spec =

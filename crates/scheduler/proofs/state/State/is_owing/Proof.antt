@@ -31,7 +31,13 @@ does-owe-requires c κs = tt
 
 returns : tie.Need-returns Inv-loop μ-loop
 unfolding owing
-returns c = let a = c .before .before .before .before .before .before .before .before .before .before .args in some-hit _ (owesIn (a .self .plan) (a .self .plan .rules) (a .self .standings) (a .self .broken)) _ (λ _. refl) _ (c .before .before .before .before .loop-test .taken) (rw (← c .before .before .before .mark-in .ensures, ← c .before .before .rule-in .ensures, ← c .before .does-owe .ensures (a .self .plan)) (c .if1 .taken))
+returns c =
+    let a = c .before .before .before .before .before .before .before .before .before .before .args in
+    some-hit _
+    (owesIn (a .self .plan) (a .self .plan .rules) (a .self .standings) (a .self .broken)) _
+    (λ _. refl) _
+    (c .before .before .before .before .loop-test .taken)
+    (rw (← c .before .before .before .mark-in .ensures, ← c .before .before .rule-in .ensures, ← c .before .does-owe .ensures (a .self .plan)) (c .if1 .taken))
 
 add-i : tie.Need-add-i Inv-loop μ-loop
 add-i c = omega arith
@@ -40,7 +46,8 @@ loop-less : tie.Need-loop-less Inv-loop μ-loop
 loop-less c = omega arith
 
 loop-again : tie.Need-loop-again Inv-loop μ-loop
-loop-again c = (omega arith, λ p. none-next _ _ (c .before .before .before .before .before .loop .inv .1 p) (rw (← c .before .before .before .mark-in .ensures, ← c .before .before .rule-in .ensures, ← c .before .does-owe .ensures p) (c .if1 .left)))
+loop-again c =
+    (omega arith, λ p. none-next _ _ (c .before .before .before .before .before .loop .inv .1 p) (rw (← c .before .before .before .mark-in .ensures, ← c .before .before .rule-in .ensures, ← c .before .does-owe .ensures p) (c .if1 .left)))
 
 returns-2 : tie.Need-returns-2 Inv-loop μ-loop
 unfolding owing

@@ -26,7 +26,8 @@ loop-less : tie.Need-loop-less Inv-loop μ-loop
 loop-less c = omega arith
 
 loop-again : tie.Need-loop-again Inv-loop μ-loop
-loop-again c = (omega arith, lapse-next _ _ _ _ _ (c .before .loop-test .taken) (c .lapse-one .ensures) ∙ c .before .before .loop .inv .1)
+loop-again c =
+    (omega arith, lapse-next _ _ _ _ _ (c .before .loop-test .taken) (c .lapse-one .ensures) ∙ c .before .before .loop .inv .1)
 
 returns : tie.Need-returns Inv-loop μ-loop
 returns c = sym (lapse-end _ _ _ _ (c .loop-test .left)) ∙ c .before .loop .inv .1

@@ -12,7 +12,8 @@ is-forbidden-requires : tie.Need-is-forbidden-requires
 is-forbidden-requires c κs = search needs
 
 returns : tie.Need-returns
-returns c = may-ready _ _ _ (c .before .before .is-ready .ensures _ refl) _ (c .is-forbidden .ensures) (c .before .if1 .taken)
+returns c =
+    may-ready _ _ _ (c .before .before .is-ready .ensures _ refl) _ (c .is-forbidden .ensures) (c .before .if1 .taken)
 
 returns-2 : tie.Need-returns-2
 returns-2 c = may-not _ _ _ (c .before .is-ready .ensures _ refl) (c .if1 .left)

@@ -1,3 +1,4 @@
+-- `State::settle_as` meets its contract.
 use Rattle.scheduler.specs.State.{settleAs}
 use borrow.Author.Tests.{lt-ltb, le-ltb}
 use borrow.Author.Needs.{needs}

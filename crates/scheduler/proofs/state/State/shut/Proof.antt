@@ -1,3 +1,4 @@
+-- `State::shut` meets its contract.
 use Rattle.scheduler.specs.State.{shut}
 use borrow.Author.Tests.{lt-ltb, le-ltb}
 use borrow.Author.Needs.{needs}

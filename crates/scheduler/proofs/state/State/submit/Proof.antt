@@ -13,7 +13,9 @@ turn-down-requires : tie.Need-turn-down-requires
 turn-down-requires c κs = search needs
 
 returns : tie.Need-returns
-returns c = c .turn-down .ensures ∙ call-incoherent _ _ (says-no _ _ (c .before .before .is-coherent .ensures) (c .before .if1 .taken))
+returns c =
+    c .turn-down .ensures
+    ∙ call-incoherent _ _ (says-no _ _ (c .before .before .is-coherent .ensures) (c .before .if1 .taken))
 
 turn-down-requires-2 : tie.Need-turn-down-requires-2
 turn-down-requires-2 c κs = search needs
