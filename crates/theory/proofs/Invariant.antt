@@ -147,7 +147,7 @@ do-run {p} sd s k w (c ∷ o) r =
     }
 
 -- a held event is refused, or an open one lapses
-pub record Kept (p : Plan) (s t : State) : Type 0 where
+pub record InvariantKept (p : Plan) (s t : State) : Type 0 where
   pub invariant : Invariant p t
   pub later : Later p s t
 
@@ -163,7 +163,7 @@ pub refused-keeps : {p : Plan} {s : State}
     → (e : ℕ)
     → e < eventCount p
     → fateOf s e ≡ Held
-    → Kept p s (settleAs Refused s e)
+    → InvariantKept p s (settleAs Refused s e)
 refused-keeps {p} {s} k e lt h =
     let un = held-unsettled h in
     let l = later-drop Refused refl e (k .listing) lt un in
@@ -178,7 +178,7 @@ refused-keeps {p} {s} k e lt h =
       later = l;
     }
 
-order-keeps : {p : Plan} {s : State} → Sound p → Invariant p s → (o : List ℕ) → Runs s o → Kept p s (doAll s o)
+order-keeps : {p : Plan} {s : State} → Sound p → Invariant p s → (o : List ℕ) → Runs s o → InvariantKept p s (doAll s o)
 order-keeps {p} {s} sd k o r =
     let z = do-run sd s (k .listing) (k .obeyed) o r in
     record {
@@ -193,12 +193,12 @@ order-keeps {p} {s} sd k o r =
     }
 
 -- a turn of settling, and turns
-pub turn-keeps : {p : Plan} {s t : State} → Sound p → Invariant p s → Turn s t → Kept p s t
+pub turn-keeps : {p : Plan} {s t : State} → Sound p → Invariant p s → Turn s t → InvariantKept p s t
 turn-keeps sd k (refuses e l) =
     refused-keeps k e (omega (arith, l .declared, same-events (k .listing .shape))) (l .is .0)
 turn-keeps sd k (does e o nb l f) = order-keeps sd k o (f .viable .runs)
 
-pub turns-keeps : {p : Plan} {s t : State} → Sound p → Invariant p s → Turns s t → Kept p s t
+pub turns-keeps : {p : Plan} {s t : State} → Sound p → Invariant p s → Turns s t → InvariantKept p s t
 turns-keeps {p} sd k (stay {s = s}) = record { invariant = k; later = later-refl p s }
 turns-keeps sd k (turn a b) =
     let y = turn-keeps sd k a in
