@@ -8,7 +8,7 @@ use peer::random::Random;
 
 const FILL: u8 = 0xa5;
 
-/// Every length from none to beyond the report: too short ones stay untouched,
+/// Lengths from none to beyond the report: too short ones stay untouched,
 /// and the bytes beyond the report stay in the others.
 fn check(sheet: &[u8], calls: &[u8]) {
     let report = second::run(sheet, calls);

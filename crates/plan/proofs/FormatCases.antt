@@ -3,10 +3,9 @@
 use Prim.Native.Nat.{ℕ, zero, suc}
 use mathlib.Core.Bool.{Bool, true, false}
 use mathlib.Core.List.{List, [], _∷_, _++_, map}
-use mathlib.Core.Option.{none, some}
 use mathlib.Core.Path.{_≡_, refl}
 use lib.ListN.{take}
-use Rattle.plan.specs.Prelude.{Held, Rule, Order, Need, Conditional, Call, Submit, Close, Finish}
+use Rattle.plan.specs.Prelude.{FateAnswered, Held, Rule, Order, Need, Conditional, Call, Submit, Close, Finish}
 use Rattle.plan.specs.Prelude.{Cut, BadKind, Full, BadStep, BadAttributes, BadNames, Unenforceable, Extra}
 use Rattle.plan.specs.Prelude.{Unknown, AlreadyClosed, NotClosed, Incoherent, Answer, Is, Made, TurnedDown}
 use Rattle.plan.specs.Plans.{eventCount, ruleCount}
@@ -27,12 +26,12 @@ outcome (whole p at) = declaring (eventCount p) (ruleCount p) at
 outcome (faulty f at) = rejected (sheetFaultNumber f) at
 
 -- b, n times
-abbrev times : ℕ → List ℕ → List ℕ
+abbrev pub times : ℕ → List ℕ → List ℕ
 times zero b = []
 times (suc n) b = b ++ times n b
 
 -- 16 events, and no end; 2 events and 16 rules, and no end
-abbrev sixteenEvents : List ℕ
+abbrev pub sixteenEvents : List ℕ
 sixteenEvents = 6 ∷ 0 ∷ 6 ∷ 1 ∷ 6 ∷ 2 ∷ 6 ∷ 3 ∷ []
 
 abbrev sixteenRules : List ℕ
@@ -127,7 +126,7 @@ abbrev read : List Call → Bool → Decoded
 read calls cut = record { calls = calls; cut = cut }
 
 -- calls: whole; cut at kinds 16 and 17; another kind ends the reading; 18 alone; none
-pub decoded :
+pub listed-calls :
     map decode (
     (16 ∷ 3 ∷ 17 ∷ 16 ∷ 18 ∷ 16 ∷ 255 ∷ [])
     ∷ (18 ∷ 16 ∷ [])
@@ -144,7 +143,7 @@ pub decoded :
     ∷ read [] false
     ∷ []
 unfolding firstCall decodeUpTo decode
-decoded = refl
+listed-calls = refl
 
 pub encoded : encode (Finish ∷ Submit 3 ∷ Close 7 ∷ []) ≡ 18 ∷ 16 ∷ 3 ∷ 17 ∷ 7 ∷ []
 unfolding encode
@@ -165,6 +164,6 @@ answers = Is Held ∷ Made ∷ TurnedDown Unknown ∷ TurnedDown Incoherent ∷ 
 -- an answer's number, its fate, and whether the call is turned down
 pub answered :
     (map answerNumber answers ≡ 0 ∷ 0 ∷ 9 ∷ 12 ∷ [])
-    × (map answerFate answers ≡ some Held ∷ none ∷ none ∷ none ∷ [])
+    × (map answerFate answers ≡ FateAnswered.Is Held ∷ FateAnswered.Nothing ∷ FateAnswered.Nothing ∷ FateAnswered.Nothing ∷ [])
     × (map isTurnedDown answers ≡ false ∷ false ∷ true ∷ true ∷ [])
 answered = (refl, refl, refl)

@@ -7,6 +7,7 @@ pub mod RuleReads
 pub mod Loops
 pub mod Lines
 pub mod Tables
+pub mod FaultlessRecords
 pub mod Steps
 pub mod SheetReading
 pub mod CallRecords

@@ -58,7 +58,7 @@ module _ {A : Type 0} (n x : ℕ) (g : ℕ → Option A) where
       let done : n - x ≡ 0 = omega arith in
       rw done
 
--- a loop that makes a turn at the first event that gives something: what it gives from x on is what it gives at all
+-- the same as an invariant of such a loop: what is found from x on is what is found at all
 module _ {A : Type 0} (n : ℕ) (g : ℕ → Option A) where
   abbrev pub Rest : ℕ → Type 0
   Rest x = firstOf n 0 g ≡ firstOf (n - x) x g

@@ -15,10 +15,10 @@ use Rattle.plan.specs.Records.{bodyLength, recordAt, declare, recordFaul
 use Rattle.plan.specs.Sheets.{PlanReading, whole, faulty, readFrom, readPlan}
 
 -- past the sheet's end there is no record
-past-end : (n : ℕ) (b : List ℕ) (at : ℕ) (p : Plan) → length b < at → readFrom n b at p ≡ faulty Cut at
+past-sheet : (n : ℕ) (b : List ℕ) (at : ℕ) (p : Plan) → length b < at → readFrom n b at p ≡ faulty Cut at
 unfolding readFrom recordFault firstFault
-past-end zero b at p h = refl
-past-end (suc n) b at p h = rw (le-leb (length b) at (omega arith), readFrom, recordFault, firstFault)
+past-sheet zero b at p h = refl
+past-sheet (suc n) b at p h = rw (le-leb (length b) at (omega arith), readFrom, recordFault, firstFault)
 
 -- what the record at an offset comes to, where `later` is what the records after it come to
 abbrev record-then : List ℕ → ℕ → Plan → PlanReading → PlanReading
@@ -33,8 +33,8 @@ same-reading : (n m : ℕ) (b : List ℕ) (at : ℕ) (p : Plan)
     → length b < m + at
     → readFrom n b at p ≡ readFrom m b at p
 unfolding readFrom
-same-reading zero m b at p h k = sym (past-end m b at p (omega arith))
-same-reading (suc n) zero b at p h k = past-end (suc n) b at p (omega arith)
+same-reading zero m b at p h k = sym (past-sheet m b at p (omega arith))
+same-reading (suc n) zero b at p h k = past-sheet (suc n) b at p (omega arith)
 same-reading (suc n) (suc m) b at p h k =
     ap (record-then b at p) (same-reading n m b (at + 1 + bodyLength (getD b at 0)) (declare p (recordAt b at)) (omega arith) (omega arith))
 

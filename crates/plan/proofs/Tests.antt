@@ -120,23 +120,23 @@ module _ {A : Type 0} where
   ]
 
   -- what is found, and where
-  pub record Found (n i : ℕ) (g : ℕ → Option A) (a : A) : Type 0 where
+  pub record FirstFound (n i : ℕ) (g : ℕ → Option A) (a : A) : Type 0 where
     pub place : ℕ
     pub from : i ≤ place
     pub upto : place < i + n
     pub gives : g place ≡ some a
     pub before : (k : ℕ) → i ≤ k → k < place → g k ≡ none
 
-  pub first-some : (n i : ℕ) (g : ℕ → Option A) (a : A) → firstOf n i g ≡ some a → Found n i g a
+  pub first-some : (n i : ℕ) (g : ℕ → Option A) (a : A) → firstOf n i g ≡ some a → FirstFound n i g a
   unfolding firstOf
   first-some zero i g a h = absurd (let z : _≡_ {A = ℕ} 0 1 = cc in omega arith)
   first-some (suc n) i g a h = go (g i) refl (first-some n (suc i) g a) h
     where
       go : (o : Option A)
           → g i ≡ o
-          → (firstOf n (suc i) g ≡ some a → Found n (suc i) g a)
+          → (firstOf n (suc i) g ≡ some a → FirstFound n (suc i) g a)
           → orElse o (firstOf n (suc i) g) ≡ some a
-          → Found (suc n) i g a
+          → FirstFound (suc n) i g a
       go (some b) e rec q =
           record {
             place = i;
@@ -146,7 +146,7 @@ module _ {A : Type 0} where
             before = λ k lo hi. absurd (omega arith);
           }
       go none e rec q =
-          let r : Found n (suc i) g a = rec q in
+          let r : FirstFound n (suc i) g a = rec q in
           record {
             place = r .place;
             from = omega arith;

@@ -2,7 +2,7 @@
 use Rattle.plan.specs.Prelude.{ℕ, Bool, true, false, _||_, List, eqb, Fate, Open, Held, Done, Refused, Lapsed, Standing}
 use Rattle.plan.specs.Base.{readAt}
 
--- "An event is open (not handed in), held, done, refused or lapsed. The last three are settled"
+-- which fate it is (5.1)
 abbrev pub isOpen : Fate → Bool
 isOpen x = elim x [ Open ↦ true | Held ↦ false | Done ↦ false | Refused ↦ false | Lapsed ↦ false ]
 
@@ -12,7 +12,7 @@ isHeld x = elim x [ Open ↦ false | Held ↦ true | Done ↦ false | Refused �
 abbrev pub isDone : Fate → Bool
 isDone x = elim x [ Open ↦ false | Held ↦ false | Done ↦ true | Refused ↦ false | Lapsed ↦ false ]
 
--- refused or lapsed
+-- refused or lapsed (5.2)
 abbrev pub isGone : Fate → Bool
 isGone x = elim x [ Open ↦ false | Held ↦ false | Done ↦ false | Refused ↦ true | Lapsed ↦ true ]
 
@@ -25,14 +25,14 @@ fateNumber x = elim x [ Open ↦ 0 | Held ↦ 1 | Done ↦ 2 | Refused ↦ 3 | L
 abbrev pub sameFate : Fate → Fate → Bool
 sameFate x y = eqb (fateNumber x) (fateNumber y)
 
--- what stands in an unused place
+-- what stands in an unused place (5.4)
 abbrev pub blankStanding : Standing
 blankStanding = record { fate = Open }
 
--- a fate for each event number
+-- a fate for each event number (5.4)
 abbrev pub Fates : Type 0
 Fates = ℕ → Fate
 
--- the fates that an array holds
+-- the fates that an array holds (5.4)
 abbrev pub fatesOf : List Standing → Fates
 fatesOf l e = readAt 16 l e blankStanding .fate

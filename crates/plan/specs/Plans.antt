@@ -17,7 +17,7 @@ emptyPlan = record {
   «rule_count» = 0;
 }
 
--- reading a plan
+-- reading a plan (2.1)
 abbrev pub eventCount : Plan → ℕ
 eventCount p = p .«event_count»
 
@@ -36,7 +36,7 @@ attributesOf p e = eventAt p e .attributes
 abbrev pub ruleAt : Plan → ℕ → Rule
 ruleAt p i = readAt 16 (p .rules) i blankRule .rule
 
--- "Attributes are a sum: 1 forcible, 2 rejectable, 4 delayable."
+-- attributes are a sum of 1 (forcible), 2 (rejectable) and 4 (delayable): whether k is one of its terms (2.3)
 abbrev pub holdsBit : ℕ → ℕ → Bool
 holdsBit k n = eqb (n / k % 2) 1
 
@@ -49,6 +49,6 @@ rejectable p e = holdsBit 2 (attributesOf p e)
 abbrev pub delayable : Plan → ℕ → Bool
 delayable p e = holdsBit 4 (attributesOf p e)
 
--- step k has an event
+-- step k has an event (2.2)
 unfoldable pub hasEvent : Plan → ℕ → Bool
 hasEvent p k = anyBelow (eventCount p) (λ e. eqb (stepOf p e) k)

@@ -26,5 +26,6 @@ pub use Rattle.plan.specs.declared.answer.CallFault.{CallFault}
 pub use Rattle.plan.specs.declared.answer.CallFault.the-variants.{Unknown, AlreadyClosed, NotClosed, Incoherent}
 pub use Rattle.plan.specs.declared.answer.Answer.{Answer}
 pub use Rattle.plan.specs.declared.answer.Answer.the-variants.{Is, Made, TurnedDown}
+pub use Rattle.plan.specs.declared.answer.FateAnswered.{FateAnswered}
 pub use Rattle.plan.specs.declared.answer.Verdict.{Verdict}
 pub use Rattle.plan.specs.declared.answer.Verdict.the-variants.{Admitted, Faulty}

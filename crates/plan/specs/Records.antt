@@ -5,7 +5,7 @@ use Rattle.plan.specs.Plans.{eventCount, ruleCount}
 use Rattle.plan.specs.Rules.{badStep, badAttributes, named, enforceable}
 use Rattle.plan.specs.Faults.{firstFault}
 
--- by kind, 1 to 6: the length of the body, and how many events and rules it declares
+-- by kind, 1 to 6: the length of the body, and how many events and rules it declares (3.2)
 abbrev pub bodyLength : ℕ → ℕ
 bodyLength k = getD (0 ∷ 2 ∷ 2 ∷ 2 ∷ 3 ∷ 0 ∷ 1 ∷ []) k 0
 
@@ -18,7 +18,7 @@ newRules k = getD (0 ∷ 0 ∷ 1 ∷ 1 ∷ 1 ∷ 0 ∷ 0 ∷ []) k 0
 abbrev pub isRule : ℕ → Bool
 isRule k = eqb (newRules k) 1
 
--- the record at an offset: its kind, and the three bytes after it; bytes past the end are 0
+-- the record at an offset: its kind, and the three bytes after it; bytes past the end are 0 (3.1)
 abbrev pub recordAt : List ℕ → ℕ → Record
 recordAt b at = record {
   kind = getD b at 0;
@@ -27,7 +27,7 @@ recordAt b at = record {
   z = getD b (at + 3) 0;
 }
 
--- 2: order; 3: need; 4: conditional
+-- 2: order; 3: need; 4: conditional (3.2)
 unfoldable pub ruleOf : Record → Rule
 ruleOf r = elim (eqb (r .kind) 2) [
   | true ↦ Order (r .x) (r .y)
@@ -37,7 +37,7 @@ ruleOf r = elim (eqb (r .kind) 2) [
   ]
 ]
 
--- the next event, and the next rule
+-- the next event, and the next rule (2.2)
 unfoldable pub addEvent : Plan → ℕ → ℕ → Plan
 addEvent p k a = record {
   events = storeAt 16 (p .events) (eventCount p) (record { step = k; attributes = a });
@@ -54,7 +54,7 @@ addRule p r = record {
   «rule_count» = ruleCount p + 1;
 }
 
--- "The four events of kind 6 take their attributes from the paper's table 1: st 7, pr 0, cm 6, ab 1."
+-- start, prepare, commit, abort (2.9)
 abbrev pub table1 : List ℕ
 table1 = 7 ∷ 0 ∷ 6 ∷ 1 ∷ []
 
@@ -62,7 +62,7 @@ unfoldable pub addEvents : Plan → ℕ → List ℕ → Plan
 addEvents p k [] = p
 addEvents p k (a ∷ more) = addEvents (addEvent p k a) k more
 
--- what a record declares
+-- what a record declares (3.2)
 unfoldable pub declare : Plan → Record → Plan
 declare p r = elim (eqb (r .kind) 1) [
   | true ↦ addEvent p (r .x) (r .y)
@@ -72,8 +72,7 @@ declare p r = elim (eqb (r .kind) 1) [
   ]
 ]
 
--- the table's rows for the record at an offset of a sheet of some length:
--- "Within a record: kind, length, number of events and rules, then the rows from 4 on."
+-- the table's rows for the record at an offset of a sheet of some length, in the order of the tests (4.2, 4.3)
 unfoldable pub recordFault : Plan → ℕ → ℕ → Record → Option SheetFault
 recordFault p len at r =
     firstFault (

@@ -1,7 +1,7 @@
 // Why a sheet or a call is turned down, and what it answers.
 use super::fate::Fate;
 ghost use mathlib.Core.Path.{_≡_};
-ghost use Rattle.plan.specs.Faults.{sheetFaultNumber, callFaultNumber};
+ghost use Rattle.plan.specs.Faults.{sheetFaultNumber, callFaultNumber, answerNumber, answerFate};
 
 // Why a sheet is turned down, in the order of the numbers 1 to 8.
 pub enum SheetFault {
@@ -28,6 +28,12 @@ pub enum Answer {
     Is(Fate),
     Made,
     TurnedDown(CallFault),
+}
+
+// The fate that an answer gives: a hand-in that is taken answers one, nothing else does.
+pub enum FateAnswered {
+    Is(Fate),
+    Nothing,
 }
 
 // What reading a sheet comes to: admitted, or the fault and its offset.
@@ -60,5 +66,27 @@ pub fn call_fault_number(fault: CallFault) -> usize
         CallFault::AlreadyClosed => 10,
         CallFault::NotClosed => 11,
         CallFault::Incoherent => 12,
+    }
+}
+
+// An answer's number: the fault's where the call is turned down, and 0 where it is taken.
+pub fn answer_number(answer: Answer) -> usize
+    ensures { λ r. ⌜ r ≡ answerNumber answer ⌝ }
+{
+    match answer {
+        Answer::Is(fate) => 0,
+        Answer::Made => 0,
+        Answer::TurnedDown(fault) => call_fault_number(fault),
+    }
+}
+
+// An answer's fate.
+pub fn answer_fate(answer: Answer) -> FateAnswered
+    ensures { λ r. ⌜ r ≡ answerFate answer ⌝ }
+{
+    match answer {
+        Answer::Is(fate) => FateAnswered::Is(fate),
+        Answer::Made => FateAnswered::Nothing,
+        Answer::TurnedDown(fault) => FateAnswered::Nothing,
     }
 }

@@ -14,26 +14,26 @@ use Rattle.readers.specs.declared.RuleRead.{RuleRead}
 use Rattle.readers.specs.declared.EntryRead.{EntryRead}
 use Rattle.readers.specs.declared.Mark.{Mark}
 
--- the number i is below its count and below 16
+-- the number i is below its count and below 16 (5.8)
 abbrev pub declaredBelow : ℕ → ℕ → Bool
 declaredBelow n i = ltb i n && ltb i 16
 
--- an event's fate
+-- an event's fate (5.8)
 unfoldable pub fateRead : State → ℕ → FateRead
 fateRead s e =
     cond (declaredBelow (eventCount (s .plan)) e) (FateRead.Is (fateOf s e)) FateRead.Undeclared
 
--- an event's step and attributes
+-- an event's step and attributes (5.8)
 unfoldable pub eventRead : State → ℕ → EventRead
 eventRead s e =
     cond (declaredBelow (eventCount (s .plan)) e) (EventRead.Is (eventAt (s .plan) e)) EventRead.Undeclared
 
--- a rule
+-- a rule (5.8)
 unfoldable pub ruleRead : State → ℕ → RuleRead
 ruleRead s i =
     cond (declaredBelow (ruleCount (s .plan)) i) (RuleRead.Is (ruleAt (s .plan) i)) RuleRead.Undeclared
 
--- a line of the history
+-- a line of the history (5.8)
 unfoldable pub lineRead : State → ℕ → EntryRead
 lineRead s n =
     cond (declaredBelow (lineCount s) n) (EntryRead.Is (readAt 16 (s .history) n blankEntry)) EntryRead.Undeclared
@@ -41,11 +41,11 @@ lineRead s n =
 abbrev pub markOf : Bool → Mark
 markOf b = cond b Mark.Yes Mark.No
 
--- whether a step is closed
+-- whether a step is closed (5.8)
 unfoldable pub closedRead : State → ℕ → Mark
 closedRead s k = cond (ltb k 8) (markOf (closedAt s k)) Mark.Undeclared
 
--- whether a rule is recorded as broken
+-- whether a rule is recorded as broken (5.8)
 unfoldable pub brokenRead : State → ℕ → Mark
 brokenRead s i =
     cond (declaredBelow (ruleCount (s .plan)) i) (markOf (brokenAt s i)) Mark.Undeclared

@@ -177,8 +177,8 @@ module _ (s : State) (c : Call) where
     pub call-refused : (f : CallFault) → firstFault (callRows s c) ≡ some f → turnedDownBy f s ≡ call s c
     call-refused f r = sym (call-fault s c f (rows ∙ r))
 
-    pub call-taken : (r : Reply) → firstFault (callRows s c) ≡ none → r ≡ accept s c → r ≡ call s c
-    call-taken r none-is same = same ∙ sym (call-accept s c (rows ∙ none-is))
+    pub call-accepted : (r : Reply) → firstFault (callRows s c) ≡ none → r ≡ accept s c → r ≡ call s c
+    call-accepted r none-is same = same ∙ sym (call-accept s c (rows ∙ none-is))
 
 -- the rows of each call
 module _ (s : State) where

@@ -4,6 +4,7 @@ use Prim.Native.Nat.{ℕ, zero, suc}
 use mathlib.Core.Bool.{Bool, true, false}
 use mathlib.Core.List.{List, [], _∷_, _++_, map}
 use mathlib.Core.Path.{_≡_, refl}
+use Rattle.plan.proofs.FormatCases.{times, sixteenEvents}
 use lib.ListN.{take, replicate}
 use Rattle.scheduler.specs.Prelude.{Fate, Held, Done, Refused, Lapsed, Need, Plan, State, Answer, Is, Made, TurnedDown, Unknown, AlreadyClosed, NotClosed, Incoherent, Admitted, Faulty, Call, Submit, Close, Finish}
 use Rattle.plan.specs.Base.{anyBelow, allBelow, countBelow, firstOf, tabulate, lowest}
@@ -66,18 +67,6 @@ sheetG = 1 ∷ 0 ∷ 6 ∷ 1 ∷ 0 ∷ 0 ∷ 2 ∷ 0 ∷ 1 ∷ 5 ∷ []
 
 abbrev pub sheetL : List ℕ
 sheetL = 1 ∷ 0 ∷ 6 ∷ 1 ∷ 1 ∷ 6 ∷ 1 ∷ 2 ∷ 6 ∷ 4 ∷ 0 ∷ 1 ∷ 2 ∷ 5 ∷ []
-
--- b, n times
-abbrev pub times : ℕ → List ℕ → List ℕ
-times zero b = []
-times (suc n) b = b ++ times n b
-
--- 16 events, and no end; 2 events and 16 rules, and no end
-abbrev pub sixteenEvents : List ℕ
-sixteenEvents = 6 ∷ 0 ∷ 6 ∷ 1 ∷ 6 ∷ 2 ∷ 6 ∷ 3 ∷ []
-
-abbrev pub sixteenRules : List ℕ
-sixteenRules = (1 ∷ 0 ∷ 6 ∷ 1 ∷ 0 ∷ 6 ∷ []) ++ times 16 (2 ∷ 0 ∷ 1 ∷ [])
 
 -- orders 0, 1 up to n - 1, n
 abbrev pub links : ℕ → List ℕ
@@ -165,51 +154,6 @@ cases =
     ∷ (sheetA, Close 8 ∷ Close 2 ∷ Close 0 ∷ Close 0 ∷ Finish ∷ Submit 2 ∷ Submit 0 ∷ [], ran (TurnedDown Unknown ∷ TurnedDown Unknown ∷ Made ∷ TurnedDown AlreadyClosed ∷ TurnedDown NotClosed ∷ TurnedDown Unknown ∷ Is Lapsed ∷ []) ((0, Lapsed) ∷ []) (false ∷ false ∷ []))
     -- a plan without events winds up, and again
     ∷ (5 ∷ [], Submit 0 ∷ Close 0 ∷ Finish ∷ Finish ∷ [], ran (TurnedDown Unknown ∷ TurnedDown Unknown ∷ Made ∷ Made ∷ []) [] [])
-    -- 1: bytes end inside a record, and before kind 5 (at the sheet's length)
-    ∷ (6 ∷ [], [], rejected 1 0)
-    ∷ (1 ∷ 0 ∷ 6 ∷ 4 ∷ 0 ∷ 1 ∷ [], [], rejected 1 3)
-    ∷ (6 ∷ 0 ∷ [], [], rejected 1 2)
-    -- 2: kind 0 and above 6, also as the last byte
-    ∷ (0 ∷ 5 ∷ [], [], rejected 2 0)
-    ∷ (6 ∷ 0 ∷ 7 ∷ [], [], rejected 2 2)
-    -- 3: the 17th event, by kinds 1 and 6, and the 17th rule; before its step or names are looked at, and not where
-    -- it is cut
-    ∷ (sixteenEvents ++ (5 ∷ []), [], ran [] [] [])
-    ∷ (sixteenEvents ++ (1 ∷ 9 ∷ 9 ∷ []), [], rejected 3 8)
-    ∷ (sixteenEvents ++ (1 ∷ 9 ∷ []), [], rejected 1 8)
-    ∷ (1 ∷ 0 ∷ 0 ∷ sixteenEvents, [], rejected 3 9)
-    ∷ (sixteenRules ++ (5 ∷ []), [], ran [] [] (replicate 16 false))
-    ∷ (sixteenRules ++ (3 ∷ 9 ∷ 9 ∷ []), [], rejected 3 54)
-    -- 4: a step above 7, before the attributes
-    ∷ (6 ∷ 8 ∷ [], [], rejected 4 0)
-    ∷ (1 ∷ 8 ∷ 255 ∷ [], [], rejected 4 0)
-    -- 5: attributes above 7, or delayable without rejectable
-    ∷ (1 ∷ 0 ∷ 0 ∷ 1 ∷ 1 ∷ 1 ∷ 1 ∷ 2 ∷ 2 ∷ 1 ∷ 3 ∷ 3 ∷ 1 ∷ 6 ∷ 6 ∷ 1 ∷ 7 ∷ 7 ∷ 5 ∷ [], [], ran [] [] [])
-    ∷ (1 ∷ 0 ∷ 5 ∷ [], [], rejected 5 0)
-    ∷ (6 ∷ 0 ∷ 1 ∷ 0 ∷ 8 ∷ [], [], rejected 5 2)
-    -- 6: an event declared only below or not at all, and one event twice; before 7
-    ∷ (1 ∷ 0 ∷ 6 ∷ 2 ∷ 0 ∷ 1 ∷ 1 ∷ 0 ∷ 6 ∷ 5 ∷ [], [], rejected 6 3)
-    ∷ (1 ∷ 0 ∷ 6 ∷ 2 ∷ 1 ∷ 0 ∷ 5 ∷ [], [], rejected 6 3)
-    ∷ (1 ∷ 0 ∷ 7 ∷ 3 ∷ 1 ∷ 0 ∷ 5 ∷ [], [], rejected 6 3)
-    ∷ (6 ∷ 0 ∷ 4 ∷ 4 ∷ 0 ∷ 2 ∷ 5 ∷ [], [], rejected 6 2)
-    ∷ (6 ∷ 0 ∷ 4 ∷ 0 ∷ 4 ∷ 2 ∷ 5 ∷ [], [], rejected 6 2)
-    ∷ (6 ∷ 0 ∷ 4 ∷ 0 ∷ 2 ∷ 4 ∷ 5 ∷ [], [], rejected 6 2)
-    ∷ (1 ∷ 0 ∷ 6 ∷ 2 ∷ 0 ∷ 0 ∷ 5 ∷ [], [], rejected 6 3)
-    ∷ (1 ∷ 0 ∷ 7 ∷ 3 ∷ 0 ∷ 0 ∷ 5 ∷ [], [], rejected 6 3)
-    ∷ (6 ∷ 0 ∷ 4 ∷ 0 ∷ 0 ∷ 2 ∷ 5 ∷ [], [], rejected 6 2)
-    ∷ (6 ∷ 0 ∷ 4 ∷ 0 ∷ 2 ∷ 0 ∷ 5 ∷ [], [], rejected 6 2)
-    ∷ (6 ∷ 0 ∷ 4 ∷ 0 ∷ 2 ∷ 2 ∷ 5 ∷ [], [], rejected 6 2)
-    ∷ (1 ∷ 0 ∷ 1 ∷ 3 ∷ 0 ∷ 1 ∷ 5 ∷ [], [], rejected 6 3)
-    -- 7: order with b delayable; with a rejectable; with b rejectable alone; conditional with a, b or c, and with
-    -- none
-    ∷ (1 ∷ 0 ∷ 0 ∷ 1 ∷ 0 ∷ 6 ∷ 2 ∷ 0 ∷ 1 ∷ 5 ∷ [], [], ran [] [] (false ∷ []))
-    ∷ (1 ∷ 0 ∷ 2 ∷ 1 ∷ 0 ∷ 0 ∷ 2 ∷ 0 ∷ 1 ∷ 5 ∷ [], [], ran [] [] (false ∷ []))
-    ∷ (1 ∷ 0 ∷ 1 ∷ 1 ∷ 0 ∷ 2 ∷ 2 ∷ 0 ∷ 1 ∷ 5 ∷ [], [], rejected 7 6)
-    ∷ (1 ∷ 0 ∷ 2 ∷ 1 ∷ 0 ∷ 0 ∷ 1 ∷ 0 ∷ 0 ∷ 4 ∷ 0 ∷ 1 ∷ 2 ∷ 4 ∷ 1 ∷ 0 ∷ 2 ∷ 5 ∷ [], [], ran [] [] (false ∷ false ∷ []))
-    ∷ (1 ∷ 0 ∷ 1 ∷ 1 ∷ 0 ∷ 0 ∷ 1 ∷ 0 ∷ 0 ∷ 4 ∷ 1 ∷ 2 ∷ 0 ∷ 5 ∷ [], [], ran [] [] (false ∷ []))
-    ∷ (1 ∷ 0 ∷ 1 ∷ 1 ∷ 0 ∷ 0 ∷ 1 ∷ 0 ∷ 6 ∷ 4 ∷ 0 ∷ 1 ∷ 2 ∷ 5 ∷ [], [], rejected 7 9)
-    -- 8: the first extra byte, whatever it is
-    ∷ (6 ∷ 0 ∷ 5 ∷ 9 ∷ 9 ∷ [], [], rejected 8 3)
     ∷ []
 
 -- a plan with these counts, otherwise empty, and s with n lines

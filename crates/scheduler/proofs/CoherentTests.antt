@@ -1,8 +1,10 @@
 -- Number 12 from the parts of a state that the code reads.
-use Prim.Native.Nat.{ℕ}
-use borrow.Author.Tests.{not-true, not-false}
+use Prim.Native.Nat.{ℕ, _≤_}
+use borrow.Author.Tests.{not-true, not-false, leb-true}
 use mathlib.Core.Bool.{Bool, true, false, not, _&&_, _||_}
 use mathlib.Core.List.{List}
+use mathlib.Core.Logic.{inl, inr}
+use Rattle.plan.proofs.Tests.{clash, either}
 use mathlib.Core.Path.{_≡_, refl}
 use lib.Dec.{leb}
 use lib.ListN.{take}
@@ -67,3 +69,10 @@ module _ (s : State) where
       → coherent s ≡ allBelow (ruleCount (s .plan)) (coherentRule s)
   unfolding coherent
   rules-decide f d h = rw (not-false few f, not-false declared d, not-false events h)
+
+-- a state that passes has at most 16 events
+pub coherent-few : (s : State) → coherent s ≡ true → eventCount (s .plan) ≤ 16
+coherent-few s h = elim (either (leb (eventCount (s .plan)) 16)) [
+  | inl t ↦ leb-true (eventCount (s .plan)) 16 t
+  | inr f ↦ absurd (clash h (many-fail s (rw f)))
+]

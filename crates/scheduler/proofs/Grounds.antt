@@ -1,19 +1,19 @@
 -- Demand 2's grounds: every call is a trail of writes, each with its ground.
-use Prim.Native.Nat.{ℕ, zero, suc}
-use borrow.Author.Tests.{eqb-true}
+use Prim.Native.Nat.{ℕ, zero, suc, _<_}
+use borrow.Author.Tests.{eqb-true, leb-false, not-false}
 use mathlib.Core.Bool.{Bool, true, false, _&&_}
 use mathlib.Core.List.{List}
 use mathlib.Core.Logic.{_⊎_, inl, inr}
 use mathlib.Core.Option.{Option, none, some}
 use mathlib.Core.Path.{_≡_, refl, sym, _∙_, ap, subst}
 use lib.Dec.{eqb}
-use Rattle.scheduler.specs.Prelude.{Open, Done, Refused, Lapsed, Plan, State, CallFault, Reply, Call, Submit, Close, Finish}
+use Rattle.scheduler.specs.Prelude.{[], Unknown, leb, Incoherent, Incoherent, not, Held, Open, Done, Refused, Lapsed, Plan, State, CallFault, Reply, Call, Submit, Close, Finish}
 use Rattle.plan.specs.Plans.{eventCount, ruleCount, stepOf, rejectable, delayable}
 use Rattle.scheduler.specs.State.{fateOf, hold, settleAs, shut, Sized}
 use Rattle.plan.specs.Fates.{isOpen}
 use Rattle.scheduler.specs.Orders.{First, chosen, doAll}
 use Rattle.scheduler.specs.Calls.{refuses, does, Turns, stay, turn, settleOnce, settle, strains, breakIf, recordBroken, doAlone, decide, submit, lapse, closeStep, refuseHeld, finish}
-use Rattle.scheduler.specs.Answers.{callFault, accept, call}
+use Rattle.scheduler.specs.Answers.{callRows, callFault, accept, call}
 use Rattle.scheduler.specs.Grounds.{by-bar, by-submission, by-finish, Trail, end, held, ordered, alone, refused, shuts, lapsed, Grounded}
 use Rattle.plan.proofs.Tests.{and-left, and-right, either}
 use Rattle.plan.proofs.Fates.{open-is}
@@ -21,13 +21,18 @@ use Rattle.scheduler.proofs.Laws.{plan-hold, fate-hold-same, sized-hold
 use Rattle.scheduler.proofs.Branches.{decide-order, decide-refuse, decide-alone, submit-same, submit-delayed, submit-decided, lapse-yes, lapse-no, lowestHeld, refuse-none, refuse-some, call-fault, call-accept}
 use Rattle.scheduler.proofs.Searching.{sized-doAll, run-declared, chosen-none, chosen-first}
 use Rattle.scheduler.proofs.Settling.{held-tested, lowest-some, once-none, settle-turns, settle-rest, sized-settling}
+use Rattle.scheduler.specs.Coherent.{coherent}
+use Rattle.scheduler.specs.Lists.{scheduler}
+use Rattle.plan.proofs.Tables.{none-applies}
+use native.Mathlib.Omega.{arith}
+use Rattle.scheduler.proofs.CoherentTests.{coherent-few}
 
 -- one trail after another
 pub then : {c : Call} {s t u : State} → Trail c s t → Trail c t u → Trail c s u
 then end q = q
 then (held e p h r) q = held e p h (then r q)
 then (ordered e o h f r) q = ordered e o h f (then r q)
-then (alone e p d j n r) q = alone e p d j n (then r q)
+then (alone e p u d j n r) q = alone e p u d j n (then r q)
 then (refused e g r) q = refused e g (then r q)
 then (shuts k p r) q = shuts k p (then r q)
 then (lapsed e p h r) q = lapsed e p h (then r q)
@@ -55,12 +60,8 @@ turns-trail (turn (does e o nb l f) ts) = ordered e o (l .is .0) f (turns-trail 
 settle-trail : (c : Call) (s : State) → Sized s → Trail c s (settle s)
 settle-trail c s z = turns-trail (settle-turns s z)
 
--- an event that isn't delayable, just held: the order contains it, so it stands in the array and is held
-module _ (s : State) (e : ℕ) (z : Sized s) where
-  order-trail : (o : List ℕ) → First (hold s e) e o → Trail (Submit e) (hold s e) (doAll (hold s e) o)
-  order-trail o f =
-      ordered e o (fate-hold-same s e z (run-declared (hold s e) o (f .viable .runs) e (f .viable .contains) .1)) f end
-
+-- an event that isn't delayable, just held
+module _ (s : State) (e : ℕ) (z : Sized s) (lt : e < 16) where
   decide-trail : delayable (s .plan) e ≡ false → Trail (Submit e) (hold s e) (settle (decide (hold s e) e))
   decide-trail d = go (chosen t e) refl (either (rejectable (t .plan) e))
     where
@@ -73,6 +74,9 @@ module _ (s : State) (e : ℕ) (z : Sized s) where
       at : (u : State) → decide t e ≡ u → Sized u → Trail (Submit e) t u → Trail (Submit e) t (settle (decide t e))
       at u q y r = subst (λ v. Trail (Submit e) t (settle v)) (sym q) (then r (settle-trail (Submit e) u y))
 
+      is-held : fateOf t e ≡ Held
+      is-held = fate-hold-same s e z lt
+
       waits : delayable (t .plan) e ≡ false
       waits = ap (λ (p : Plan). delayable p e) (plan-hold s e) ∙ d
 
@@ -81,25 +85,25 @@ module _ (s : State) (e : ℕ) (z : Sized s) where
           → (rejectable (t .plan) e ≡ true) ⊎ (rejectable (t .plan) e ≡ false)
           → Trail (Submit e) t (settle (decide t e))
       go (some o) h r =
-          at (doAll t o) (decide-order t e o h) (sized-doAll t o sized) (order-trail o (chosen-first t e sized o h))
+          at (doAll t o) (decide-order t e o h) (sized-doAll t o sized) (ordered e o is-held (chosen-first t e sized o h) end)
       go none h (inl r) =
           at
           (settleAs Refused t e)
           (decide-refuse t e h r)
           (sized-settle Refused t e sized)
-          (refused e (by-submission refl waits r (chosen-none t e h)) end)
+          (refused e (by-submission refl is-held waits r (chosen-none t e h)) end)
       go none h (inr r) =
-          at (doAlone t e) (decide-alone t e h r) (sized-alone t e sized) (alone e refl waits r (chosen-none t e h) end)
+          at (doAlone t e) (decide-alone t e h r) (sized-alone t e sized) (alone e refl is-held waits r (chosen-none t e h) end)
 
 -- hand in
-submit-trail : (s : State) (e : ℕ) → Sized s → Trail (Submit e) s (submit s e)
-submit-trail s e z = elim (either (isOpen (fateOf s e))) [
+submit-trail : (s : State) (e : ℕ) → Sized s → e < 16 → Trail (Submit e) s (submit s e)
+submit-trail s e z lt = elim (either (isOpen (fateOf s e))) [
   | inr shut ↦ subst (Trail (Submit e) s) (sym (submit-same s e shut)) end
   | inl is-open ↦
       let h : fateOf s e ≡ Open = open-is (fateOf s e) is-open in
       elim (either (delayable (s .plan) e)) [
         | inl d ↦ subst (Trail (Submit e) s) (sym (submit-delayed s e is-open d)) (held e refl h (settle-trail (Submit e) (hold s e) (sized-hold s e z)))
-        | inr d ↦ subst (Trail (Submit e) s) (sym (submit-decided s e is-open d)) (held e refl h (decide-trail s e z d))
+        | inr d ↦ subst (Trail (Submit e) s) (sym (submit-decided s e is-open d)) (held e refl h (decide-trail s e z lt d))
       ]
 ]
 
@@ -115,6 +119,9 @@ lapse-trail (suc n) e s k z = elim (either (isOpen (fateOf s e) && eqb (stepOf (
       subst (λ t. Trail (Close k) s t × Sized t) (sym (lapse-yes n e s k t)) (lapsed e (ap Close (sym step)) is-open (r .0), r .1)
   | inr t ↦ subst (λ t. Trail (Close k) s t × Sized t) (sym (lapse-no n e s k t)) (lapse-trail n (suc e) s k z)
 ]
+
+pub lapse-sized : (n e : ℕ) (s : State) (k : ℕ) → Sized s → Sized (lapse n e s k)
+lapse-sized n e s k z = lapse-trail n e s k z .1
 
 close-trail : (s : State) (k : ℕ) → Sized s → Trail (Close k) s (closeStep s k)
 unfolding closeStep
@@ -142,16 +149,24 @@ finish-trail : (s : State) → Sized s → Trail Finish s (finish s)
 unfolding finish
 finish-trail s z = then (settle-trail Finish s z) (refuse-trail 16 (settle s) (sized-settling s z) (settle-rest s z))
 
--- every call that is taken, and every call
-accept-trail : (s : State) (c : Call) → Sized s → Trail c s (accept s c .state)
-unfolding accept
-accept-trail s (Submit e) z = submit-trail s e z
-accept-trail s (Close k) z = close-trail s k z
-accept-trail s Finish z = finish-trail s z
+-- a hand-in that is taken names an event that stands in the arrays
+submit-low : (s : State) (e : ℕ) → callFault s (Submit e) ≡ none → e < 16
+unfolding callFault
+submit-low s e h =
+    let q = none-applies (not (coherent s)) Incoherent (callRows s (Submit e)) h in
+    let unknown = none-applies (leb (eventCount (s .plan)) e) Unknown [] (q .1) .0 in
+    omega (arith, leb-false (eventCount (s .plan)) e unknown, coherent-few s (not-false (coherent s) (q .0)))
 
-pub grounded : Grounded (λ s c. call s c .state)
+-- every call that is taken, and every call
+accept-trail : (s : State) (c : Call) → Sized s → callFault s c ≡ none → Trail c s (accept s c .state)
+unfolding accept
+accept-trail s (Submit e) z h = submit-trail s e z (submit-low s e h)
+accept-trail s (Close k) z h = close-trail s k z
+accept-trail s Finish z h = finish-trail s z
+
+pub grounded : Grounded scheduler
 grounded s c z = go (callFault s c) refl
   where
     go : (q : Option CallFault) → callFault s c ≡ q → Trail c s (call s c .state)
     go (some f) h = subst (λ (r : Reply). Trail c s (r .state)) (sym (call-fault s c f h)) end
-    go none h = subst (λ (r : Reply). Trail c s (r .state)) (sym (call-accept s c h)) (accept-trail s c z)
+    go none h = subst (λ (r : Reply). Trail c s (r .state)) (sym (call-accept s c h)) (accept-trail s c z h)

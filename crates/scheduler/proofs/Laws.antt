@@ -93,6 +93,9 @@ module _ (s : State) (c : ℕ) where
   pub one-settled : Sized s → c < 16 → isSettled (fateOf (doOne s c) c) ≡ true
   one-settled z lt = ap isSettled (fate-settle-same Done s c z lt)
 
+  pub fate-one-other : (j : ℕ) → j ≢ c → fateOf (doOne s c) j ≡ fateOf s j
+  fate-one-other j ne = fate-settle-other Done s c j ne
+
   pub settled-one : (e : ℕ) → Sized s → isSettled (fateOf s e) ≡ true → isSettled (fateOf (doOne s c) e) ≡ true
   settled-one e z h = elim (fate-settle-either Done s c e z) [ inl d ↦ ap isSettled d | inr q ↦ ap isSettled q ∙ h ]
 

@@ -7,6 +7,7 @@ pub mod SearchLoops
 pub mod Settling
 pub mod SettleLoops
 pub mod Grounds
+pub mod Doing
 pub mod Decimals
 pub mod CallSteps
 pub mod Cases

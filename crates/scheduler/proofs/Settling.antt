@@ -4,6 +4,7 @@ use native.Mathlib.Omega.{arith}
 use native.Mathlib.Decide.{decLt}
 use mathlib.Core.Bool.{Bool, true, false, not, _&&_}
 use mathlib.Core.List.{List, [], _∷_}
+use mathlib.Core.Logic.{inl, inr}
 use mathlib.Core.Option.{Option, none, some, Option·map}
 use mathlib.Core.Path.{_≡_, refl, sym, _∙_, ap, subst}
 use lib.ListN.{length}
@@ -15,7 +16,7 @@ use Rattle.plan.specs.Fates.{isHeld, isSettled}
 use Rattle.scheduler.specs.Rules.{barred}
 use Rattle.scheduler.specs.Orders.{mayDo, doOne, Runs, Viable, First, chosen, doAll}
 use Rattle.scheduler.specs.Calls.{Lowest, IsHeld, HeldBarred, HeldViable, Turn, refuses, does, Turns, stay, turn, Settles, toRefuse, toDo, settleOnce, settleUpTo, settle, refuseHeld, finish, Refusing, nothing-held, refuse-next, Finishes}
-use Rattle.plan.proofs.Tests.{and-left, and-right, and-both, clash, first-none, first-some, when-none, when-some, some-none, count-le, count-more}
+use Rattle.plan.proofs.Tests.{either, and-left, and-right, and-both, clash, first-none, first-some, when-none, when-some, some-none, count-le, count-more}
 use Rattle.plan.proofs.Fates.{held-is}
 use Rattle.scheduler.proofs.Laws.{sized-one, fate-past, plan-settle, fate-settle-same, fate-settle-other, sized-settle}
 use Rattle.scheduler.proofs.Branches.{upTo-none, upTo-some, lowestHeld, refuse-none, refuse-some}
@@ -154,6 +155,18 @@ rest-none s h e o held v = go (toRefuse s) refl (toDo s) refl
     go (some d) r w q = some-none (sym (once-refuse s d r) ∙ h)
     go none r (some p) q = some-none (sym (ap (Option·map (doAll s)) q) ∙ sym (once-do s r) ∙ h)
     go none r none q = do-none s q e (run-declared s o (v .runs) e (v .contains) .0) (held, o, v)
+
+-- and none is barred
+pub rest-unbarred : (s : State) → settleOnce s ≡ none → (e : ℕ) → e < eventCount (s .plan) → fateOf s e ≡ Held → barred s e ≡ false
+unfolding toRefuse
+rest-unbarred s h e lt held = go (toRefuse s) refl
+  where
+    go : (r : Option ℕ) → toRefuse s ≡ r → barred s e ≡ false
+    go (some d) r = absurd (some-none (sym (once-refuse s d r) ∙ h))
+    go none r = elim (either (barred s e)) [
+      | inl b ↦ absurd (lowest-none s (barred-tested s) r e lt (held, b))
+      | inr b ↦ b
+    ]
 
 -- turns keep the plan and the lengths
 pub plan-turn : {s t : State} → Turn s t → t .plan ≡ s .plan

@@ -7,11 +7,11 @@ use Rattle.scheduler.specs.State.{fateOf, closedAt}
 use Rattle.scheduler.specs.Calls.{submit, closeStep, finish}
 use Rattle.scheduler.specs.Coherent.{coherent}
 
--- some step has an event and is not closed
+-- some step has an event and is not closed (10.2, 10.3)
 abbrev pub unclosedAt : State → ℕ → Bool
 unclosedAt s k = hasEvent (s .plan) k && not (closedAt s k)
 
--- the table's rows for calls: "12 is tested first, then 9, then 10 or 11"
+-- the table's rows for each call, after number 12's (10.2, 10.3)
 abbrev pub callRows : State → Call → List (Bool × CallFault)
 callRows s (Submit e) = (leb (eventCount (s .plan)) e, Unknown) ∷ []
 callRows s (Close k) = (not (hasEvent (s .plan) k), Unknown) ∷ (closedAt s k, AlreadyClosed) ∷ []
@@ -20,13 +20,13 @@ callRows s Finish = (anyBelow 8 (unclosedAt s), NotClosed) ∷ []
 unfoldable pub callFault : State → Call → Option CallFault
 callFault s c = firstFault ((not (coherent s), Incoherent) ∷ callRows s c)
 
--- "Each call takes a funeral's state and gives the state after it."
+-- what a call that is taken gives: its answer and the state after it (9.1, 9.6)
 unfoldable pub accept : State → Call → Reply
 accept s (Submit e) = let t = submit s e in record { answer = Is (fateOf t e); state = t }
 accept s (Close k) = record { answer = Made; state = closeStep s k }
 accept s Finish = record { answer = Made; state = finish s }
 
--- a call turned down gives back the state as it came in
+-- a call turned down gives back the state as it came in (10.1)
 abbrev pub turnedDownBy : CallFault → State → Reply
 turnedDownBy f s = record { answer = TurnedDown f; state = s }
 

@@ -8,7 +8,7 @@ use Rattle.scheduler.specs.State.{fateOf, hold, settleAs, shut, breakRul
 use Rattle.scheduler.specs.Rules.{stands, barred}
 use Rattle.scheduler.specs.Orders.{Viable, First, chosen, doAll}
 
--- e is the lowest-numbered declared event of which P holds
+-- e is the lowest-numbered declared event of which P holds (1.4)
 pub record Lowest (s : State) (P : ℕ → Type 0) (e : ℕ) : Type 0 where
   pub declared : e < eventCount (s .plan)
   pub is : P e
@@ -23,8 +23,8 @@ HeldBarred s e = (fateOf s e ≡ Held) × (barred s e ≡ true)
 abbrev pub HeldViable : State → ℕ → Type 0
 HeldViable s e = (fateOf s e ≡ Held) × (o : List ℕ) × Viable s e o
 
--- one turn of settling: "If any held event is barred, refuse the lowest-numbered such one. Otherwise do the chosen
--- order of the lowest-numbered held event that has a viable order."
+-- one turn of settling: where held events are barred, the lowest of them is refused; where none is, the lowest held
+-- event with a viable order has its chosen order done (8.1)
 pub data Turn (s : State) : State → Type 0 where
   refuses : (e : ℕ) → Lowest s (HeldBarred s) e → Turn s (settleAs Refused s e)
   does : (e : ℕ) (o : List ℕ)
@@ -33,17 +33,18 @@ pub data Turn (s : State) : State → Type 0 where
       → First s e o
       → Turn s (doAll s o)
 
--- turns one after another
+-- turns one after another (8.2)
 pub data Turns : State → State → Type 0 where
   stay : {s : State} → Turns s s
   turn : {s t u : State} → Turn s t → Turns t u → Turns s u
 
--- Settling. "Repeat until neither applies."
+-- turns until there is none left to make (8.2)
 pub record Settles (s t : State) : Type 0 where
   pub turns : Turns s t
   pub rests : (u : State) → Turn t u → ⊥
 
 -- Settling as a function, proved to be that: the event to refuse, the order to do, one turn, and turns up to a number
+-- (8.1)
 unfoldable pub toRefuse : State → Option ℕ
 toRefuse s = lowest (eventCount (s .plan)) (λ e. isHeld (fateOf s e) && barred s e)
 
@@ -60,11 +61,11 @@ unfoldable pub settleUpTo : ℕ → State → State
 settleUpTo zero s = s
 settleUpTo (suc n) s = elim (settleOnce s) [ none ↦ s | some t ↦ settleUpTo n t ]
 
--- each turn settles an event, and there are at most 16
+-- each turn settles an event, and there are at most 16 (8.2, 8.3)
 unfoldable pub settle : State → State
 settle s = settleUpTo 16 s
 
--- rule i, not recorded as broken, forbids doing e in s or owes right after it
+-- rule i, not recorded as broken, forbids doing e in s or owes right after it (9.5)
 unfoldable pub strains : State → ℕ → ℕ → Bool
 strains s e i =
     stands s i
@@ -75,32 +76,32 @@ abbrev pub breakIf : Bool → State → ℕ → State
 breakIf true s i = breakRule s i
 breakIf false s i = s
 
--- t with each of the first n rules that doing e in s strains recorded as broken
+-- t with each of the first n rules that doing e in s strains recorded as broken (9.5)
 unfoldable pub recordBroken : ℕ → State → ℕ → State → State
 recordBroken zero s e t = t
 recordBroken (suc n) s e t = breakIf (strains s e n) (recordBroken n s e t) n
 
--- "do it alone, and record as broken each rule that forbids it or owes afterwards"
+-- the event is done although no order allows it, and every rule that this strains is recorded (9.5)
 unfoldable pub doAlone : State → ℕ → State
 doAlone s e = recordBroken (ruleCount (s .plan)) s e (settleAs Done s e)
 
--- an event that isn't delayable, held in s:
--- "do its chosen order where there is one; else refuse it if it is rejectable; else do it alone"
+-- an event that can't wait, held in s: its chosen order if there is one, else refused if that is allowed, else done
+-- alone (9.4)
 unfoldable pub decide : State → ℕ → State
 decide s e = elim (chosen s e) [
   | some o ↦ doAll s o
   | none ↦ elim (rejectable (s .plan) e) [ true ↦ settleAs Refused s e | false ↦ doAlone s e ]
 ]
 
--- Hand in. "An event that isn't open: its fate is the answer and nothing changes. An open one becomes held.
--- If it is delayable, settle. If not: [decide it]. Then settle."
+-- hand in: an event that is not open changes nothing; an open one is held, decided if it can't wait, and then the rest
+-- is settled (9.2 to 9.4)
 unfoldable pub submit : State → ℕ → State
 submit s e = elim (isOpen (fateOf s e)) [
   | false ↦ s
   | true ↦ elim (delayable (s .plan) e) [ true ↦ settle (hold s e) | false ↦ settle (decide (hold s e) e) ]
 ]
 
--- of n events from e on, the open ones of step k lapse, lowest first
+-- of n events from e on, the open ones of step k lapse, lowest first (9.7)
 unfoldable pub lapse : ℕ → ℕ → State → ℕ → State
 lapse zero e s k = s
 lapse (suc n) e s k = elim (isOpen (fateOf s e) && eqb (stepOf (s .plan) e) k) [
@@ -108,11 +109,11 @@ lapse (suc n) e s k = elim (isOpen (fateOf s e) && eqb (stepOf (s .plan) e) k) [
   | false ↦ lapse n (suc e) s k
 ]
 
--- Close a step. "Its open events lapse, lowest first; held ones stay. Then settle."
+-- close a step: what is still open of it lapses, and the rest is settled (9.7)
 unfoldable pub closeStep : State → ℕ → State
 closeStep s k = settle (lapse (eventCount (s .plan)) 0 (shut s k) k)
 
--- "while any event is held, refuse the lowest held one and settle": at most n times
+-- the lowest held event is refused and the rest settled, over and over while one is held: at most n times (9.8)
 unfoldable pub refuseHeld : ℕ → State → State
 refuseHeld zero s = s
 refuseHeld (suc n) s = elim (lowest (eventCount (s .plan)) (λ e. isHeld (fateOf s e))) [
@@ -120,12 +121,11 @@ refuseHeld (suc n) s = elim (lowest (eventCount (s .plan)) (λ e. isHeld (fateOf
   | some e ↦ refuseHeld n (settle (settleAs Refused s e))
 ]
 
--- Wind up. "settle; then, while any event is held, refuse the lowest held one and settle." Each time settles an
--- event, and there are at most 16
+-- wind up: settle, then refuse what is still held. Each time settles an event, and there are at most 16 (9.8)
 unfoldable pub finish : State → State
 finish s = refuseHeld 16 (settle s)
 
--- the same as a relation
+-- the same as a relation (9.8)
 pub data Refusing : State → State → Type 0 where
   nothing-held : {s : State} → ((e : ℕ) → e < eventCount (s .plan) → IsHeld s e → ⊥) → Refusing s s
   refuse-next : {s t u : State} (e : ℕ)

@@ -20,9 +20,9 @@ coherentRule s i =
     && (brokenAt s i
     || (not (owes (s .plan) (fateOf s) (ruleAt (s .plan) i)) && holds (lines s) (ruleAt (s .plan) i)))
 
--- 12 does not apply. "A state fails 12 if a count passes its limit, a declared event or rule is one that a sheet
--- would be turned down for, the history doesn't list exactly the settled events once each with their fates, a held
--- event isn't delayable, an open event's step is closed, or an unbroken rule owes or doesn't hold."
+-- number 12 does not apply: counts within their limits, events and rules that a sheet could declare, a history that
+-- lists the settled events once each and nothing else, no event held that cannot wait, no event open in a closed step,
+-- and no rule that stands owing or broken (10.4, 10.5)
 unfoldable pub coherent : State → Bool
 coherent s =
     leb (eventCount (s .plan)) 16

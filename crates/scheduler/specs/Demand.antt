@@ -12,7 +12,7 @@ use Rattle.scheduler.specs.Coherent.{coherent}
 use Rattle.scheduler.specs.Sheet.{readSheet, admitted}
 use Rattle.scheduler.specs.Lists.{Scheduler, after}
 
--- a list's story: each call with the history after it
+-- a list's story: each call with the history after it (11.3)
 abbrev pub Story : Type 0
 Story = List (Call × List Entry)
 
@@ -20,7 +20,7 @@ unfoldable pub seen : Scheduler → State → List Call → Story
 seen step s [] = []
 seen step s (c ∷ cs) = (c, lines (step s c)) ∷ seen step (step s c) cs
 
--- what a story shows so far
+-- what a story shows so far (11.3)
 pub record Observed : Type 0 where
   pub calls : List Call  -- the accepted calls, the latest first
   pub recorded : List ℕ  -- rules recorded as broken
@@ -29,7 +29,7 @@ pub record Observed : Type 0 where
 abbrev pub nothingYet : Observed
 nothingYet = record { calls = []; recorded = []; history = [] }
 
--- the call hands in e; closes step k; winds up
+-- the call hands in e; closes step k; winds up (11.6)
 abbrev pub submits : ℕ → Call → Bool
 submits e (Submit d) = eqb e d
 submits e (Close k) = false
@@ -50,7 +50,7 @@ unfoldable pub anyCall : (Call → Bool) → List Call → Bool
 anyCall t [] = false
 anyCall t (c ∷ cs) = t c || anyCall t cs
 
--- an accepted call handed e in; "an accepted closing so far named the step"; a winding up was accepted
+-- an accepted call handed e in; closed step k; wound up (11.6)
 abbrev pub wasSubmitted : Observed → ℕ → Bool
 wasSubmitted o e = anyCall (submits e) (o .calls)
 
@@ -64,12 +64,12 @@ abbrev pub waitsAs : Bool → Fate
 waitsAs true = Held
 waitsAs false = Open
 
--- "Settled: the event stands in the history. Held: an accepted call of the list handed it in and it is not settled.
--- Open: declared, and neither of these."
+-- an event's fate as the history and the accepted calls show it: its line's, else held if it was handed in, else open
+-- (11.6)
 unfoldable pub observedFate : Observed → ℕ → Fate
 observedFate o e = elim (fatesIn (o .history) e) [ x ∷ xs ↦ x | [] ↦ waitsAs (wasSubmitted o e) ]
 
--- the state that shows this
+-- the state that shows this (11.9)
 unfoldable pub stateOf : Plan → Observed → State
 stateOf p o = record {
   plan = p;
@@ -80,33 +80,32 @@ stateOf p o = record {
   «history_len» = length (o .history);
 }
 
--- "Accepted: no row of the table below applies to the call. Number 12 never applies in a list."
+-- nothing in the table stands against the call (number 12 aside, which never applies in a list) (11.4)
 unfoldable pub accepted : Plan → Observed → Call → Bool
 accepted p o (Submit e) = ltb e (eventCount p)
 accepted p o (Close k) = hasEvent p k && not (wasClosed o k)
 accepted p o Finish = allBelow 8 (λ k. not (hasEvent p k) || wasClosed o k)
 
--- the first of the lines says that e was done
+-- the first of the lines says that e was done (11.7)
 unfoldable pub startsDone : List Entry → ℕ → Bool
 startsDone [] e = false
 startsDone (l ∷ ls) e = eqb (l .event) e && isDone (l .fate)
 
 -- the hand-in of e after which the history is h did e alone: e was open, had no viable order, and its being done is
--- the first new line
+-- the first new line (11.7)
 unfoldable pub doneAlone : Plan → Observed → ℕ → List Entry → Bool
 doneAlone p o e h =
     isOpen (observedFate o e)
     && startsDone (drop (length (o .history)) h) e
     && not (hasViable (hold (stateOf p o) e) e)
 
--- "the rule forbade it or owed right after it"
+-- rule i, not recorded so far, was against doing e or owed right after it (11.8)
 unfoldable pub against : Plan → State → ℕ → ℕ → Bool
 against p s e i =
     not (brokenAt s i)
     && (forbids p (fateOf s) (ruleAt p i) e || owes p (fateOf (settleAs Done s e)) (ruleAt p i))
 
--- "Recorded as broken: in a hand-in of the list an event was done alone although the rule forbade it or owed right
--- after it."
+-- the rules that a hand-in which did its event alone records as broken (11.8)
 unfoldable pub newlyRecorded : Plan → Observed → ℕ → List Entry → List ℕ
 newlyRecorded p o e h = elim (doneAlone p o e h) [
   | true ↦ thoseBelow (ruleCount p) (against p (hold (stateOf p o) e) e)
@@ -118,7 +117,7 @@ recordedBy p o (Submit e) h = newlyRecorded p o e h
 recordedBy p o (Close k) h = []
 recordedBy p o Finish h = []
 
--- what an accepted call shows, with the history after it; a call turned down shows its history alone
+-- what an accepted call shows, with the history after it; a call turned down shows its history alone (11.3)
 abbrev pub shows : Plan → Observed → Call → List Entry → Observed
 shows p o c h = record { calls = c ∷ o .calls; recorded = recordedBy p o c h ++ o .recorded; history = h }
 
@@ -132,18 +131,17 @@ unfoldable pub observeAll : Plan → Observed → Story → Observed
 observeAll p o [] = o
 observeAll p o (x ∷ xs) = observeAll p (observe p o (x .0) (x .1)) xs
 
--- "Broken: recorded as broken, or not holding of the history."
+-- the rule is recorded as broken, or the history breaks it (11.9)
 unfoldable pub broken : Plan → Observed → ℕ → Bool
 broken p o i = among i (o .recorded) || not (holds (o .history) (ruleAt p i))
 
--- an order rule, or a rule whose triggers are all rejectable. "A need's trigger is a; a conditional's are a and b."
--- "An event can be refused if it is rejectable."
+-- a rule that must never be broken: an order, or one whose triggers can all be refused (11.10)
 unfoldable pub unbreakable : Plan → Rule → Bool
 unbreakable p (Order a b) = true
 unbreakable p (Need a b) = rejectable p a
 unbreakable p (Conditional a b c) = rejectable p a && rejectable p b
 
--- what has to hold of what was observed, and of the state after the list
+-- what has to hold of what was observed, and of the state after the list (11.11)
 pub record Holds (p : Plan) (o : Observed) (end : State) : Type 0 where
   -- no event twice in the history
   pub once : (e : ℕ) → length (fatesIn (o .history) e) ≤ 1
@@ -160,21 +158,21 @@ pub record Holds (p : Plan) (o : Observed) (end : State) : Type 0 where
   -- number 12 does not apply to it
   pub coherent-end : coherent end ≡ true
 
--- h begins with g
+-- h begins with g (11.11)
 abbrev pub Extends : List Entry → List Entry → Type 0
 Extends g h = (new : List Entry) × (h ≡ g ++ new)
 
--- each history of a story begins with the one before it
+-- each history of a story begins with the one before it (11.11)
 abbrev pub Grows : List Entry → Story → Type 0
 Grows h [] = Unit {0}
 Grows h (x ∷ xs) = Extends h (x .1) × Grows (x .1) xs
 
--- "Demand 3 is a single claim about the whole list and the state after it"
+-- one claim about a whole list and the state after it (11.11, 11.12)
 pub record Demand3 (p : Plan) (story : Story) (end : State) : Type 0 where
   pub claim : Holds p (observeAll p nothingYet story) end
   pub grows : Grows [] story
 
--- every admitted sheet, every list
+-- every admitted sheet, every list (11.11)
 abbrev pub Keeps : Scheduler → Type 0
 Keeps step = (bytes : List ℕ) (s : State) (cs : List Call)
     → readSheet bytes ≡ admitted s

@@ -11,18 +11,19 @@ use Rattle.scheduler.specs.Lists.{Scheduler}
 abbrev pub NoViable : State → ℕ → Type 0
 NoViable s e = (o : List ℕ) → Viable s e o → ⊥
 
--- why call c may refuse e in s: it is held and barred; or it was handed in by c, is rejectable and not delayable, and
--- has no viable order; or c winds up, settling has come to its end, and e is the lowest held event
+-- why call c may refuse e in s: it is held and barred; or c handed it in, it is held, can be refused and can't wait,
+-- and has no viable order; or c winds up, settling has come to its end, and e is the lowest held event (12.1)
 pub data Ground (c : Call) (s : State) (e : ℕ) : Type 0 where
   by-bar : fateOf s e ≡ Held → barred s e ≡ true → Ground c s e
   by-submission : c ≡ Submit e
+      → fateOf s e ≡ Held
       → delayable (s .plan) e ≡ false
       → rejectable (s .plan) e ≡ true
       → NoViable s e
       → Ground c s e
   by-finish : c ≡ Finish → Lowest s (IsHeld s) e → ((u : State) → Turn s u → ⊥) → Ground c s e
 
--- what call c does, write by write
+-- what call c does, write by write (12.1, 12.2)
 pub data Trail (c : Call) : State → State → Type 0 where
   end : {s : State} → Trail c s s
   held : {s t : State} (e : ℕ) → c ≡ Submit e → fateOf s e ≡ Open → Trail c (hold s e) t → Trail c s t
@@ -33,6 +34,7 @@ pub data Trail (c : Call) : State → State → Type 0 where
       → Trail c s t
   alone : {s t : State} (e : ℕ)
       → c ≡ Submit e
+      → fateOf s e ≡ Held
       → delayable (s .plan) e ≡ false
       → rejectable (s .plan) e ≡ false
       → NoViable s e
@@ -46,6 +48,6 @@ pub data Trail (c : Call) : State → State → Type 0 where
       → Trail c (settleAs Lapsed s e) t
       → Trail c s t
 
--- every call of a scheduler is such a trail
+-- every call of a scheduler is such a trail (12.3)
 abbrev pub Grounded : Scheduler → Type 0
 Grounded step = (s : State) (c : Call) → Sized s → Trail c s (step s c)

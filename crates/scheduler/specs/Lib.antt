@@ -12,4 +12,5 @@ pub mod Lists
 pub mod Runner
 pub mod Demand
 pub mod Grounds
+pub mod Doing
 pub mod Internal

@@ -4,20 +4,20 @@ use Rattle.plan.specs.Base.{oneIf}
 use Rattle.plan.specs.Faults.{isTurnedDown}
 use Rattle.scheduler.specs.Answers.{call}
 
--- whatever makes a state out of a state and a call
+-- whatever makes a state out of a state and a call (9.1)
 abbrev pub Scheduler : Type 0
 Scheduler = State → Call → State
 
--- the scheduler of document 01
+-- the scheduler of document 01 (9.1)
 abbrev pub scheduler : Scheduler
 scheduler s c = call s c .state
 
--- "The first call gets the first state, each later one the state that the call before it gave, turned down or not"
+-- the state after a list: each call gets what the one before it left, also where that was turned down (11.2)
 unfoldable pub after : Scheduler → State → List Call → State
 after step s [] = s
 after step s (c ∷ cs) = after step (step s c) cs
 
--- how many calls of a list are turned down
+-- how many calls of a list are turned down (13.4)
 unfoldable pub turnedDown : State → List Call → ℕ
 turnedDown s [] = 0
 turnedDown s (c ∷ cs) = oneIf (isTurnedDown (call s c .answer)) + turnedDown (call s c .state) cs

@@ -5,11 +5,11 @@ use Rattle.plan.specs.Plans.{ruleCount, ruleAt}
 use Rattle.plan.specs.Rules.{bars, forbids, owes}
 use Rattle.scheduler.specs.State.{fateOf, brokenAt}
 
--- "A rule recorded as broken forbids and owes nothing from then on."
+-- the rule is not recorded as broken; one that is says nothing any more (6.1)
 abbrev pub stands : State → ℕ → Bool
 stands s i = not (brokenAt s i)
 
--- "An event is barred when a rule forbids doing it for good."
+-- some rule that stands is against doing e for good (6.4)
 unfoldable pub barred : State → ℕ → Bool
 barred s e =
     anyBelow (ruleCount (s .plan)) (λ i. stands s i && bars (s .plan) (fateOf s) (ruleAt (s .plan) i) e)
@@ -18,7 +18,7 @@ unfoldable pub forbidden : State → ℕ → Bool
 forbidden s e =
     anyBelow (ruleCount (s .plan)) (λ i. stands s i && forbids (s .plan) (fateOf s) (ruleAt (s .plan) i) e)
 
--- some rule owes
+-- some rule owes (6.3)
 unfoldable pub owing : State → Bool
 owing s =
     anyBelow (ruleCount (s .plan)) (λ i. stands s i && owes (s .plan) (fateOf s) (ruleAt (s .plan) i))

@@ -9,7 +9,7 @@ use Rattle.scheduler.specs.State.{fateOf, brokenAt, lines}
 use Rattle.scheduler.specs.Sheet.{readSheet}
 use Rattle.scheduler.specs.Lists.{scheduler, after, turnedDown}
 
--- the calls of a file on a state; "a cut record .. counts as one refused call"
+-- a file's calls, made on a state; a bad record at their end counts as one call turned down (13.3)
 abbrev pub ranOn : State → Decoded → Outcome
 ranOn s d = record {
   verdict = Admitted;
@@ -17,7 +17,7 @@ ranOn s d = record {
   refused = turnedDown s (d .calls) + oneIf (d .cut);
 }
 
--- on an admitted sheet's first state. A sheet turned down: the empty state, and no call is made
+-- on an admitted sheet's first state. A sheet turned down: the empty state, and no call is made (13.3, 13.5)
 unfoldable pub runOn : Reading → Decoded → Outcome
 runOn r d = elim (r .verdict) [
   | Admitted ↦ ranOn (r .state) d
@@ -27,14 +27,14 @@ runOn r d = elim (r .verdict) [
 unfoldable pub runOf : List ℕ → List ℕ → Outcome
 runOf sheet calls = runOn (readSheet sheet) (decode calls)
 
--- "the events still held, the rules recorded broken", as counts
+-- the two counts that a report gives of a state (13.4)
 abbrev pub heldCount : State → ℕ
 heldCount s = countBelow (eventCount (s .plan)) (λ e. isHeld (fateOf s e))
 
 abbrev pub brokenCount : State → ℕ
 brokenCount s = countBelow (ruleCount (s .plan)) (λ i. brokenAt s i)
 
--- a number in decimal digits: at most n of them; `decimal` has enough
+-- a number in decimal digits: at most n of them; `decimal` has enough (13.6)
 unfoldable pub digits : ℕ → ℕ → List ℕ
 digits zero x = []
 digits (suc n) x = elim (ltb x 10) [
@@ -45,7 +45,7 @@ digits (suc n) x = elim (ltb x 10) [
 unfoldable pub decimal : ℕ → List ℕ
 decimal x = digits (x + 1) x
 
--- the report's words, in ASCII
+-- the report's words, in ASCII (13.4)
 abbrev pub fateWord : Fate → List ℕ
 fateWord Open = 111 ∷ 112 ∷ 101 ∷ 110 ∷ []  -- open
 fateWord Held = 104 ∷ 101 ∷ 108 ∷ 100 ∷ []  -- held
@@ -76,14 +76,13 @@ a ␣ b = a ++ (32 ∷ b)
 abbrev pub line : List ℕ → List ℕ
 line a = a ++ (10 ∷ [])
 
--- "then one line for each history entry, event and fate"
+-- a line for each line of the history: the event and its fate (13.4)
 unfoldable pub historyLines : List Entry → List ℕ
 historyLines [] = []
 historyLines (l ∷ ls) = line (decimal (l .event) ␣ fateWord (l .fate)) ++ historyLines ls
 
--- "Line 1 counts declarations; then one line for each history entry ..; then, as counts, the events still held, the
--- rules recorded broken and the calls turned down." "For a sheet turned down it prints one line, such as `refused 7
--- at 6`."
+-- what the runner prints: of an admitted sheet the counts of its plan, the history, and three counts; of a sheet
+-- turned down the number and the offset (13.4, 13.5)
 unfoldable pub report : Outcome → List ℕ
 report r = elim (r .verdict) [
   | Admitted ↦

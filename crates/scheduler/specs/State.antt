@@ -5,8 +5,7 @@ use Rattle.plan.specs.Fates.{Fates, fatesOf, blankStanding}
 use Rattle.plan.specs.Plans.{emptyPlan}
 use Rattle.plan.specs.Histories.{blankEntry}
 
--- "An admitted sheet's first state has every event open, no step closed, no line of history and no rule recorded as
--- broken."
+-- nothing has happened: every event is open, no step is closed, nothing is recorded and the history is empty (5.5)
 abbrev pub firstState : Plan → State
 firstState p = record {
   plan = p;
@@ -17,15 +16,15 @@ firstState p = record {
   «history_len» = 0;
 }
 
--- "An empty state has no events, rules or history."
+-- the first state of a plan without events and rules (5.6)
 abbrev pub emptyState : State
 emptyState = firstState emptyPlan
 
--- reading a state
+-- reading a state (5.4)
 abbrev pub fateOf : State → Fates
 fateOf s e = fatesOf (s .standings) e
 
--- the rule is recorded as broken
+-- the rule is recorded as broken (5.4)
 abbrev pub brokenAt : State → ℕ → Bool
 brokenAt s i = readAt 16 (s .broken) i false
 
@@ -35,11 +34,11 @@ closedAt s k = readAt 8 (s .closed) k false
 abbrev pub lineCount : State → ℕ
 lineCount s = s .«history_len»
 
--- "The history lists settlements in the order they were made."
+-- the history, oldest line first (5.3)
 abbrev pub lines : State → List Entry
 lines s = take (lineCount s) (s .history)
 
--- the four ways in which a call writes the state: an open event becomes held
+-- the four ways in which a call writes the state: an open event becomes held (5.7)
 unfoldable pub hold : State → ℕ → State
 hold s e = record {
   plan = s .plan;
@@ -51,7 +50,7 @@ hold s e = record {
 }
 
 -- an event is settled: its fate is written and its line added to the history. The line count stops at 16 (it is never
--- met)
+-- met) (5.7)
 unfoldable pub settleAs : Fate → State → ℕ → State
 settleAs x s e = record {
   plan = s .plan;
@@ -62,7 +61,7 @@ settleAs x s e = record {
   «history_len» = cond (ltb (lineCount s) 16) (lineCount s + 1) (lineCount s);
 }
 
--- a step is closed
+-- a step is closed (5.7)
 unfoldable pub shut : State → ℕ → State
 shut s k = record {
   plan = s .plan;
@@ -73,7 +72,7 @@ shut s k = record {
   «history_len» = lineCount s;
 }
 
--- a rule is recorded as broken
+-- a rule is recorded as broken (5.7)
 unfoldable pub breakRule : State → ℕ → State
 breakRule s i = record {
   plan = s .plan;
@@ -84,7 +83,7 @@ breakRule s i = record {
   «history_len» = lineCount s;
 }
 
--- the arrays have their lengths, as in every state that code can hold
+-- the arrays have their lengths, as in every state that code can hold (5.4)
 pub record Sized (s : State) : Type 0 where
   pub standings-len : length (s .standings) ≡ 16
   pub broken-len : length (s .broken) ≡ 16

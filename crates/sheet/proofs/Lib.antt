@@ -1,7 +1,7 @@
 -- The lemmas that the functions' proofs cite.
 pub mod RecordLaws
 pub mod RecordRows
-pub mod FaultlessRecords
+pub mod Rooms
 pub mod ProgressLaws
 pub mod Reading
 pub mod ReaderOwned

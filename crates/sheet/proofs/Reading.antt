@@ -17,7 +17,7 @@ use Rattle.sheet.specs.Types.{Plan, Record, SheetFault, Extra, Verdict, 
 use Rattle.sheet.specs.Internal.Progress.{endVerdict, started, stopped, takeRecord, readingOf}
 use Rattle.sheet.specs.Internal.Place.{placeAfter}
 use Rattle.sheet.proofs.RecordLaws.{place-inside}
-use Rattle.sheet.proofs.FaultlessRecords.{faultless}
+use Rattle.plan.proofs.FaultlessRecords.{faultless}
 use Rattle.sheet.proofs.ProgressLaws.{next, take-fault, take-end, take-next}
 
 -- the branches of `readFrom`

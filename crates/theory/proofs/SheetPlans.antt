@@ -22,6 +22,7 @@ use Rattle.scheduler.specs.Sheet.{admitted, readSheet}
 use Rattle.plan.proofs.Tests.{and-left, and-right, or-left, or-right}
 use Rattle.plan.proofs.Tables.{no-row}
 use Rattle.plan.proofs.Arrays.{length-store, read-same, read-other}
+use Rattle.plan.proofs.FaultlessRecords.{Faultless, faultless}
 
 -- a plan as far as it is read
 record Read (p : Plan) : Type 0 where
@@ -178,45 +179,14 @@ table-sound (suc (suc zero)) = refl
 table-sound (suc (suc (suc zero))) = refl
 table-sound (suc (suc (suc (suc i)))) = refl
 
--- a record to which no row applies
-record Clean (p : Plan) (v : Record) : Type 0 where
-  low : v .kind ≢ 0
-  high : v .kind ≤ 6
-  events : eventCount p + newEvents (v .kind) ≤ 16
-  rules : ruleCount p + newRules (v .kind) ≤ 16
-  step : ((eqb (v .kind) 1 || eqb (v .kind) 6) && badStep (v .x)) ≡ false
-  attributes : (eqb (v .kind) 1 && badAttributes (v .y)) ≡ false
-  names : (isRule (v .kind) && not (named (eventCount p) (ruleOf v))) ≡ false
-  enforced : (isRule (v .kind) && not (enforceable p (ruleOf v))) ≡ false
-
-record-clean : (p : Plan) (len at : ℕ) (v : Record) → recordFault p len at v ≡ none → Clean p v
-unfolding recordFault
-record-clean p len at v h =
-    let k = v .kind in
-    let q = no-row _ h .1 in
-    let full = q .1 .1 .0 in
-    let rest = q .1 .1 .1 in
-    record {
-      low = eqb-false k 0 (or-left (eqb k 0) (ltb 6 k) (q .0));
-      high = ltb-false 6 k (or-right (eqb k 0) (ltb 6 k) (q .0));
-      events = ltb-false 16 (eventCount p + newEvents k)
-          (or-left (ltb 16 (eventCount p + newEvents k)) (ltb 16 (ruleCount p + newRules k)) full);
-      rules = ltb-false 16 (ruleCount p + newRules k)
-          (or-right (ltb 16 (eventCount p + newEvents k)) (ltb 16 (ruleCount p + newRules k)) full);
-      step = rest .0;
-      attributes = rest .1 .0;
-      names = rest .1 .1 .0;
-      enforced = rest .1 .1 .1 .0;
-    }
-
 -- what it declares, kind by kind
-module _ (p : Plan) (r : Read p) where
-  read-rule-record : (v : Record) → Clean p v → isRule (v .kind) ≡ true → ruleCount p < 16 → Read (addRule p (ruleOf v))
+module _ (p : Plan) (r : Read p) {len at : ℕ} where
+  read-rule-record : (v : Record) → Faultless p len at v → isRule (v .kind) ≡ true → ruleCount p < 16 → Read (addRule p (ruleOf v))
   read-rule-record v c is room =
       read-rule p (ruleOf v) r room (not-false _ (rw is at (c .names))) (not-false _ (rw is at (c .enforced)))
 
   by-kind : (k x y z : ℕ)
-      → Clean p (record { kind = k; x = x; y = y; z = z })
+      → Faultless p len at (record { kind = k; x = x; y = y; z = z })
       → k ≢ 5
       → Read (declare p (record { kind = k; x = x; y = y; z = z }))
   unfolding declare
@@ -230,7 +200,7 @@ module _ (p : Plan) (r : Read p) where
       read-events p x table1 r (omega arith) (c .step) table-sound
   by-kind (suc (suc (suc (suc (suc (suc (suc k))))))) x y z c five = absurd (omega arith)
 
-  read-declared : (v : Record) → Clean p v → v .kind ≢ 5 → Read (declare p v)
+  read-declared : (v : Record) → Faultless p len at v → v .kind ≢ 5 → Read (declare p v)
   read-declared v c five = by-kind (v .kind) (v .x) (v .y) (v .z) c five
 
 faulty-whole : {f : SheetFault} {at end : ℕ} {p : Plan} → faulty f at ≡ whole p end → ⊥
@@ -257,7 +227,7 @@ read-from (suc n) b at p q end r h = go (recordFault p (length b) at v) refl (eq
     go (some f) o t u rec = absurd (faulty-whole (rw (o, readFrom) at h))
     go none o true u rec = subst Read (same-plan (rw (o, u, readFrom) at h)) r
     go none o false u rec =
-        let c = record-clean p (length b) at v o in
+        let c = faultless p (length b) at v o in
         rec (at + 1 + bodyLength (v .kind)) (declare p v) q end (read-declared p r v c (eqb-false (v .kind) 5 u))
         (rw (o, u, readFrom) at h)
 

@@ -1,23 +1,23 @@
--- Worthless schedulers break the statements: each is refuted on a short list, by computation.
-use Prim.Native.Nat.{ℕ}
+-- Worthless schedulers break the statements: each is refuted on a short list or a small state, by computation.
+use Prim.Native.Nat.{ℕ, zero, suc}
 use native.Mathlib.Omega.{arith}
 use mathlib.Core.Bool.{Bool, true, false, not, _&&_}
 use mathlib.Core.List.{List, [], _∷_, List·Memᴰ·not-nil, List·Memᴰ·head}
 use mathlib.Core.Option.{none, some}
 use mathlib.Core.Logic.{_≢_, inl, inr}
 use mathlib.Core.Path.{_≡_, refl, sym, _∙_, ap, subst}
-use Rattle.theory.proofs.Types.{Done, Refused, Order, State, Call, Submit, Close, Finish}
+use Rattle.theory.proofs.Types.{Need, Fate, Done, Refused, Order, State, Call, Submit, Close, Finish}
 use Rattle.plan.specs.Base.{anyBelow, allBelow, thoseBelow, among, firstOf, tabulate, lowest}
 use Rattle.plan.specs.Plans.{emptyPlan, eventCount, ruleCount, rejectable, delayable, hasEvent}
 use Rattle.scheduler.specs.State.{firstState, emptyState, fateOf, closedAt, hold, settleAs, shut, Sized}
-use Rattle.plan.specs.Fates.{isOpen}
-use Rattle.plan.specs.Rules.{named, enforceable, soundEvent, bars, makesWait, forbids, ready}
+use Rattle.plan.specs.Fates.{isDone, isOpen}
+use Rattle.plan.specs.Rules.{owes, soundRule, named, enforceable, soundEvent, bars, makesWait, forbids, ready}
 use Rattle.scheduler.specs.Rules.{barred, forbidden, owing}
-use Rattle.plan.specs.Histories.{fatesIn, declaredOnly, sameFates, listedAs}
+use Rattle.plan.specs.Histories.{anyDone, doneIn, doneInTurn, holds, fatesIn, declaredOnly, sameFates, listedAs}
 use Rattle.scheduler.specs.Orders.{mayDo, doAll, Viable, orderOf, chosen, someOrder, hasViable}
-use Rattle.scheduler.specs.Calls.{toRefuse, toDo, settleOnce, settleUpTo, settle, doAlone, submit}
+use Rattle.scheduler.specs.Calls.{lapse, toRefuse, toDo, settleOnce, settleUpTo, settle, doAlone, submit}
 use Rattle.plan.specs.Faults.{firstFault}
-use Rattle.scheduler.specs.Coherent.{coherentEvent, coherent}
+use Rattle.scheduler.specs.Coherent.{coherentRule, coherentEvent, coherent}
 use Rattle.scheduler.specs.Answers.{callFault, accept, call}
 use Rattle.plan.specs.Records.{ruleOf, addEvent, addRule, declare, recordFault}
 use Rattle.plan.specs.Sheets.{readFrom, readPlan, ending, sheetPlan}
@@ -27,6 +27,8 @@ use Rattle.scheduler.specs.Demand.{seen, Observed, nothingYet, anyCall, Holds, 
 use Rattle.scheduler.specs.Grounds.{Ground, by-bar, by-submission, by-finish, Trail, end, held, ordered, alone, refused, shuts, lapsed, Grounded}
 use Rattle.plan.proofs.Tests.{clash, any-none}
 use Rattle.scheduler.proofs.Laws.{plan-hold, plan-settle, sized-hold, sized-settle, fate-hold-same, fate-settle-either}
+use Rattle.scheduler.specs.Doing.{Acts, Doing}
+use Rattle.scheduler.proofs.Doing.{settled-fixed, rest-held}
 
 -- sheets of one event that is rejectable and delayable, and of two with an order
 abbrev oneEvent : List ℕ
@@ -201,7 +203,7 @@ module _ (s : State) (e : ℕ) (u : Unrefused s) where
 
   no-ground : Ground (Submit 0) s e → ⊥
   no-ground (by-bar h b) = clash b not-barred
-  no-ground (by-submission q d r n) = stays-delayable q d
+  no-ground (by-submission q h d r n) = stays-delayable q d
   no-ground (by-finish q l r) = let z : _≡_ {A = ℕ} 0 1 = cc in omega arith
 
 unrefused : {s t : State} → Trail (Submit 0) s t → Unrefused s → Unrefused t
@@ -209,7 +211,7 @@ unrefused end u = u
 unrefused (held {s} e q o rest) u =
     unrefused rest (let z : 0 ≡ e = cc in subst (λ d. Unrefused (hold s d)) z (unrefused-held s u))
 unrefused (ordered {s} e o h f rest) u = unrefused rest (unrefused-done s o u)
-unrefused (alone {s} e q d r n rest) u = absurd (stays-delayable s e u q d)
+unrefused (alone {s} e q h d r n rest) u = absurd (stays-delayable s e u q d)
 unrefused (refused {s} e g rest) u = absurd (no-ground s e u g)
 unrefused (shuts k q rest) u = absurd (let z : _≡_ {A = ℕ} 0 1 = cc in omega arith)
 unrefused (lapsed e q o rest) u = absurd (let z : _≡_ {A = ℕ} 0 1 = cc in omega arith)
@@ -221,3 +223,67 @@ not-refuser g =
     unrefused (g one (Submit 0) z)
     (record { same-plan = refl; sized = z; not-refused = λ r. let w : _≡_ {A = ℕ} 0 1 = cc in omega arith }) .not-refused
     refl
+
+-- a closing that is taken acts
+acts-close : (s : State) (k : ℕ) → callFault s (Close k) ≡ none → Acts s (Close k)
+acts-close s k h = record { taken = h; fresh = λ e q. absurd (let z : _≡_ {A = ℕ} 0 1 = cc in omega arith) }
+
+-- refuses a done event when it is handed in again
+unfoldable pub unmaker : Scheduler
+unmaker s (Submit e) = elim (isDone (fateOf s e)) [ true ↦ settleAs Refused s e | false ↦ scheduler s (Submit e) ]
+unmaker s (Close k) = scheduler s (Close k)
+unmaker s Finish = scheduler s Finish
+
+-- one event that can be refused and cannot wait, done
+abbrev oneDone : State
+oneDone = settleAs Done (firstState (addEvent emptyPlan 0 2)) 0
+
+pub not-unmaker : Grounded unmaker → ⊥
+unfolding addEvent settleAs unmaker
+not-unmaker g =
+    let t : Trail (Submit 0) oneDone (settleAs Refused oneDone 0) = g oneDone (Submit 0) sized-lengths in
+    let z : _≡_ {A = Fate} Refused Done = settled-fixed t 0 refl in
+    let w : _≡_ {A = ℕ} 0 1 = cc in
+    omega arith
+  where
+    sized-lengths : Sized oneDone
+    sized-lengths = record { standings-len = refl; broken-len = refl; closed-len = refl; history-len = refl }
+
+-- hands its state back untouched: a closing leaves an event held that could be done
+abbrev oneHeld : State
+oneHeld = hold one 0
+
+pub not-doing-idle : Doing idle → ⊥
+unfolding shownBy scheduled
+not-doing-idle d =
+    let z : Sized oneHeld = record { standings-len = refl; broken-len = refl; closed-len = refl; history-len = refl } in
+    rest-held oneHeld z (d oneHeld (Close 0) z .rests (acts-close oneHeld 0 refl)) 0 (omega arith) refl .1
+    (0 ∷ [])
+    (record {
+      contains = List·Memᴰ·head refl;
+      short = omega arith;
+      different = (λ m. List·Memᴰ·not-nil m, tt);
+      runs = (omega arith, refl, refl);
+    })
+
+-- leaves a barred event held until winding up: settling does what has an order, and refuses nothing
+unfoldable pub doesUpTo : ℕ → State → State
+doesUpTo zero s = s
+doesUpTo (suc n) s = elim (toDo s) [ none ↦ s | some o ↦ doesUpTo n (doAll s o) ]
+
+unfoldable pub lenient : Scheduler
+lenient s (Submit e) = elim (isOpen (fateOf s e)) [ true ↦ doesUpTo 16 (hold s e) | false ↦ s ]
+lenient s (Close k) = doesUpTo 16 (lapse (eventCount (s .plan)) 0 (shut s k) k)
+lenient s Finish = scheduler s Finish
+
+-- event 0, held, needs event 1
+abbrev needHeld : State
+needHeld = hold (firstState (addRule (addEvent (addEvent emptyPlan 0 6) 1 6) (Need 0 1))) 0
+
+pub not-doing-lenient : Doing lenient → ⊥
+unfolding shownBy scheduled soundRule named enforceable owes holds doneInTurn doneIn anyDone coherentRule lapse doesUpTo lenient
+not-doing-lenient d =
+    let t = lenient needHeld (Close 1) in
+    let sized : Sized needHeld = record { standings-len = refl; broken-len = refl; closed-len = refl; history-len = refl } in
+    let after-sized : Sized t = record { standings-len = refl; broken-len = refl; closed-len = refl; history-len = refl } in
+    clash refl (rest-held t after-sized (d needHeld (Close 1) sized .rests (acts-close needHeld 1 refl)) 0 (omega arith) refl .0)

@@ -3,7 +3,8 @@ use mathlib.Core.Path.{_≡_, _∙_}
 use mathlib.Core.Option.{none}
 use native.Mathlib.Omega.{arith}
 use Rattle.plan.specs.Records.{recordFault}
-use Rattle.sheet.proofs.FaultlessRecords.{Faultless, faultless, room}
+use Rattle.plan.proofs.FaultlessRecords.{Faultless, faultless}
+use Rattle.sheet.proofs.Rooms.{room}
 use Rattle.sheet.proofs.ProgressLaws.{no-fault, taken-bad, taken-extra, taken-end, taken-next}
 use borrow.Author.Needs.{needs}
 use Rattle.sheet.proofs.read.take_record.Statement.{statement}

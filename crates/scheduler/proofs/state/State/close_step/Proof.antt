@@ -1,7 +1,7 @@
 -- `State::close_step` meets its contract.
 use mathlib.Core.Path.{sym, _∙_}
 use Rattle.scheduler.specs.Prelude.{Close, Unknown, AlreadyClosed}
-use Rattle.scheduler.proofs.CallSteps.{says-no, says-yes, call-incoherent, call-refused, call-taken, close-unknown, close-again, close-known, close-reply}
+use Rattle.scheduler.proofs.CallSteps.{says-no, says-yes, call-incoherent, call-refused, call-accepted, close-unknown, close-again, close-known, close-reply}
 use borrow.Author.Needs.{needs}
 use Rattle.scheduler.proofs.state.State.close_step.Statement.{statement}
 use Rattle.scheduler.proofs.state.State.close_step.Tie as tie
@@ -51,7 +51,7 @@ returns-4 : tie.Need-returns-4
 returns-4 c =
     let a = c .before .before .before .before .before .before .before .before .before .args in
     let known = says-yes _ _ (c .before .before .before .before .has-event .ensures) (c .before .before .before .if2 .left) in
-    call-taken
+    call-accepted
     (a .self)
     (Close (a .step))
     (says-yes _ _ (c .before .before .before .before .before .before .is-coherent .ensures) (c .before .before .before .before .before .if1 .left))

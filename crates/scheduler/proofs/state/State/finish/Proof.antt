@@ -1,7 +1,7 @@
 -- `State::finish` meets its contract.
 use mathlib.Core.Path.{sym, _∙_}
 use Rattle.scheduler.specs.Prelude.{Finish, NotClosed}
-use Rattle.scheduler.proofs.CallSteps.{says-no, says-yes, call-incoherent, call-refused, call-taken, finish-unclosed, finish-closed, finish-reply}
+use Rattle.scheduler.proofs.CallSteps.{says-no, says-yes, call-incoherent, call-refused, call-accepted, finish-unclosed, finish-closed, finish-reply}
 use borrow.Author.Needs.{needs}
 use Rattle.scheduler.proofs.state.State.finish.Statement.{statement}
 use Rattle.scheduler.proofs.state.State.finish.Tie as tie
@@ -36,7 +36,7 @@ after-finish-requires c κs = search needs
 returns-3 : tie.Need-returns-3
 returns-3 c =
     let a = c .before .before .before .before .before .args in
-    call-taken
+    call-accepted
     (a .self)
     Finish
     (says-yes _ _ (c .before .before .before .before .is-coherent .ensures) (c .before .before .before .if1 .left))

@@ -1,7 +1,7 @@
 -- `State::submit` meets its contract.
 use mathlib.Core.Path.{_∙_}
 use Rattle.scheduler.specs.Prelude.{Submit, Unknown}
-use Rattle.scheduler.proofs.CallSteps.{says-no, says-yes, call-incoherent, call-refused, call-taken, submit-unknown, submit-known, submit-reply}
+use Rattle.scheduler.proofs.CallSteps.{says-no, says-yes, call-incoherent, call-refused, call-accepted, submit-unknown, submit-known, submit-reply}
 use borrow.Author.Needs.{needs}
 use Rattle.scheduler.proofs.state.State.submit.Statement.{statement}
 use Rattle.scheduler.proofs.state.State.submit.Tie as tie
@@ -35,7 +35,7 @@ fate-in-requires c κs = search needs
 returns-3 : tie.Need-returns-3
 returns-3 c =
     let a = c .before .before .before .before .before .before .before .before .args in
-    call-taken
+    call-accepted
     (a .self)
     (Submit (a .event))
     (says-yes _ _ (c .before .before .before .before .before .before .is-coherent .ensures) (c .before .before .before .before .before .if1 .left))

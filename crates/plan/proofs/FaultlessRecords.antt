@@ -1,0 +1,48 @@
+-- What is known of a record without a fault: no row of the table applies to it.
+use Prim.Native.Nat.{ℕ, _+_, _≤_, _<_}
+use mathlib.Core.Bool.{false, not, _&&_, _||_}
+use mathlib.Core.Option.{none}
+use mathlib.Core.Path.{_≡_}
+use borrow.Author.Tests.{ltb-false, leb-false, eqb-false}
+use lib.Dec.{eqb, ltb}
+use Rattle.plan.specs.Prelude.{Plan, Record}
+use Rattle.plan.specs.Plans.{eventCount, ruleCount}
+use Rattle.plan.specs.Rules.{badStep, badAttributes, named, enforceable}
+use Rattle.plan.specs.Records.{bodyLength, newEvents, newRules, isRule, ruleOf, recordFault}
+use Rattle.plan.proofs.Tests.{or-left, or-right}
+use Rattle.plan.proofs.Tables.{none-applies}
+
+pub record Faultless (p : Plan) (len at : ℕ) (r : Record) : Type 0 where
+  pub inside : at < len
+  pub low : r .kind ≡ 0 → ⊥
+  pub high : r .kind ≤ 6
+  pub whole : at + 1 + bodyLength (r .kind) ≤ len
+  pub events : eventCount p + newEvents (r .kind) ≤ 16
+  pub rules : ruleCount p + newRules (r .kind) ≤ 16
+  pub step : ((eqb (r .kind) 1 || eqb (r .kind) 6) && badStep (r .x)) ≡ false
+  pub attributes : (eqb (r .kind) 1 && badAttributes (r .y)) ≡ false
+  pub names : (isRule (r .kind) && not (named (eventCount p) (ruleOf r))) ≡ false
+  pub enforced : (isRule (r .kind) && not (enforceable p (ruleOf r))) ≡ false
+
+pub faultless : (p : Plan) (len at : ℕ) (r : Record) → recordFault p len at r ≡ none → Faultless p len at r
+unfolding recordFault
+faultless p len at r h =
+    let a = none-applies _ _ _ h in
+    let b = none-applies _ _ _ (a .1) in
+    let c = none-applies _ _ _ (b .1) in
+    let d = none-applies _ _ _ (c .1) in
+    let e = none-applies _ _ _ (d .1) in
+    let f = none-applies _ _ _ (e .1) in
+    let g = none-applies _ _ _ (f .1) in
+    record {
+      inside = leb-false _ _ (a .0);
+      low = eqb-false _ _ (or-left _ _ (b .0));
+      high = ltb-false _ _ (or-right (eqb (r .kind) 0) _ (b .0));
+      whole = ltb-false _ _ (c .0);
+      events = ltb-false _ _ (or-left _ _ (d .0));
+      rules = ltb-false _ _ (or-right (ltb 16 (eventCount p + newEvents (r .kind))) _ (d .0));
+      step = e .0;
+      attributes = f .0;
+      names = g .0;
+      enforced = none-applies _ _ _ (g .1) .0;
+    }
