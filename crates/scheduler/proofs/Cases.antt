@@ -144,6 +144,10 @@ cases =
     ∷ (1 ∷ 0 ∷ 6 ∷ 1 ∷ 0 ∷ 6 ∷ 1 ∷ 0 ∷ 6 ∷ 1 ∷ 0 ∷ 6 ∷ 2 ∷ 3 ∷ 2 ∷ 4 ∷ 0 ∷ 1 ∷ 2 ∷ 5 ∷ [], Submit 2 ∷ Submit 0 ∷ Submit 1 ∷ Submit 3 ∷ [], ran (Is Held ∷ Is Done ∷ Is Held ∷ Is Done ∷ []) ((0, Done) ∷ (1, Done) ∷ (3, Done) ∷ (2, Done) ∷ []) (false ∷ false ∷ []))
     -- an order waits for an a that is held: 0 (need 0, 2) is held, so 1 (order 0, 1) is held too
     ∷ (1 ∷ 0 ∷ 6 ∷ 1 ∷ 0 ∷ 6 ∷ 1 ∷ 0 ∷ 6 ∷ 2 ∷ 0 ∷ 1 ∷ 3 ∷ 0 ∷ 2 ∷ 5 ∷ [], Submit 0 ∷ Submit 1 ∷ Submit 2 ∷ [], ran (Is Held ∷ Is Held ∷ Is Done ∷ []) ((0, Done) ∷ (2, Done) ∷ (1, Done) ∷ []) (false ∷ false ∷ []))
+    -- two held triggers with c lapsed: neither is barred until one is done
+    ∷ (6 ∷ 0 ∷ 1 ∷ 1 ∷ 6 ∷ 2 ∷ 1 ∷ 0 ∷ 2 ∷ 1 ∷ 2 ∷ 4 ∷ 0 ∷ 2 ∷ 4 ∷ 5 ∷ [], Submit 0 ∷ Submit 2 ∷ Close 1 ∷ Submit 1 ∷ [], ran (Is Held ∷ Is Held ∷ Made ∷ Is Done ∷ []) ((4, Lapsed) ∷ (1, Done) ∷ (0, Done) ∷ (2, Refused) ∷ []) (replicate 3 false))
+    -- an open forcible event is forced so that the one that waits for it can be done
+    ∷ (1 ∷ 0 ∷ 1 ∷ 1 ∷ 1 ∷ 6 ∷ 2 ∷ 0 ∷ 1 ∷ 5 ∷ [], Submit 1 ∷ [], ran (Is Done ∷ []) ((0, Done) ∷ (1, Done) ∷ []) (false ∷ []))
     -- an order of six is the longest: a chain of six is done by force, and of a chain of seven nothing is done
     ∷ (chain 5, Submit 0 ∷ [], ran (Is Done ∷ []) ((0, Done) ∷ (1, Done) ∷ (2, Done) ∷ (3, Done) ∷ (4, Done) ∷ (5, Done) ∷ []) (replicate 6 false))
     ∷ (chain 6, Submit 0 ∷ [], ran (Is Held ∷ []) [] (replicate 7 false))

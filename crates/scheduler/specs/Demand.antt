@@ -153,7 +153,7 @@ pub record Holds (p : Plan) (o : Observed) (end : State) : Type 0 where
   pub waiting : (e : ℕ) (q : List ℕ) → observedFate o e ≡ Held → Viable (stateOf p o) e q → ⊥
   -- nothing unsettled after an accepted winding up
   pub settled : wasFinished o ≡ true → (e : ℕ) → e < eventCount p → isSettled (observedFate o e) ≡ true
-  -- "the state after the list must show the same fates, closed steps and recorded rules"
+  -- the state after the list shows the same, to the last field
   pub shown : end ≡ stateOf p o
   -- number 12 does not apply to it
   pub coherent-end : coherent end ≡ true

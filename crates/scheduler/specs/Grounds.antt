@@ -1,5 +1,4 @@
--- Demand 2's grounds, of any scheduler: the writes of a call, one after another, each with its ground. "Nothing else
--- refuses an event."
+-- Demand 2's grounds, of any scheduler: the writes of a call, one after another, each with its ground (section 12)
 use Rattle.scheduler.specs.Prelude.{ℕ, true, false, List, _≡_, Open, Held, Refused, Lapsed, State, Call, Submit, Close, Finish}
 use Rattle.plan.specs.Plans.{stepOf, rejectable, delayable}
 use Rattle.scheduler.specs.State.{fateOf, hold, settleAs, shut, Sized}

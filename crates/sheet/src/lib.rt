@@ -1,4 +1,4 @@
-// Reading a sheet: document 01, "The sheet", and rows 1 to 8 of its table.
+// Reading a sheet (docs/SPECIFICATION.md, sections 3 and 4).
 mod declare;
 mod fault;
 mod kind;
