@@ -64,7 +64,7 @@ sheets =
     -- 4: a step above 7, before the attributes
     ∷ (6 ∷ 8 ∷ [], rejected 4 0)
     ∷ (1 ∷ 8 ∷ 255 ∷ [], rejected 4 0)
-    -- 5: attributes above 7, or delayable without rejectable
+    -- 5: attributes of 8 or more, or 4 without 2
     ∷ (1 ∷ 0 ∷ 0 ∷ 1 ∷ 1 ∷ 1 ∷ 1 ∷ 2 ∷ 2 ∷ 1 ∷ 3 ∷ 3 ∷ 1 ∷ 6 ∷ 6 ∷ 1 ∷ 7 ∷ 7 ∷ 5 ∷ [], declaring 6 0 19)
     ∷ (1 ∷ 0 ∷ 4 ∷ 5 ∷ [], rejected 5 0)
     ∷ (1 ∷ 0 ∷ 5 ∷ [], rejected 5 0)

@@ -1,4 +1,4 @@
-// Calls as data, and their records: kind 16 with an event, kind 17 with a step, kind 18 alone.
+// Calls as data, and their records: 16 and an event, 17 and a step, or 18.
 ghost use mathlib.Core.Path.{_≡_};
 ghost use lib.ListN.{drop};
 ghost use mathlib.Core.List.{[], _∷_};

@@ -10,7 +10,7 @@ ghost use Rattle.plan.specs.Fates.{isOpen, isHeld};
 ghost use Rattle.plan.specs.Plans.{blankEvent, holdsBit};
 ghost use Rattle.plan.specs.Rules.{badStep, badAttributes};
 
-// What a sheet declares of an event. Attributes are a sum: 1 forcible, 2 rejectable, 4 delayable.
+// What a sheet declares of an event. The attributes' bits: 1 forcible, 2 rejectable, 4 delayable.
 pub struct Event {
     pub step: u8,
     pub attributes: u8,

@@ -3,7 +3,7 @@ ghost use mathlib.Core.Path.{_≡_};
 ghost use Rattle.plan.specs.Base.{readAt};
 ghost use Rattle.plan.specs.Fates.{isOpen, isHeld, isDone, isGone, isSettled, fateNumber, sameFate, blankStanding};
 
-// An event is open (not handed in), held, done, refused or lapsed.
+// Where an event is: still to come, waiting, or settled in one of three ways (5.1, 5.2).
 pub enum Fate {
     Open,
     Held,

@@ -81,7 +81,7 @@ fn put_head(page: &mut [u8; MOST], at: usize, events: u8, rules: u8) -> usize
     put_line(page, next, b" rules ", rules as usize)
 }
 
-// The lines with the events still held, the rules recorded as broken and the calls turned down.
+// The last three lines: how many events are held, rules recorded, calls turned down.
 fn put_tail(page: &mut [u8; MOST], at: usize, held: usize, broken: usize, refused: usize) -> usize
     requires { ⌜ at + length (tail held broken refused) ≤ 320 ⌝ }
     ensures { λ r. ⌜ Put (now (page .entry)) at (tail held broken refused) (now (page .exit)) r ⌝ }

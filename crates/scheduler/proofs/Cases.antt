@@ -151,7 +151,7 @@ cases =
     -- an order of six is the longest: a chain of six is done by force, and of a chain of seven nothing is done
     ∷ (chain 5, Submit 0 ∷ [], ran (Is Done ∷ []) ((0, Done) ∷ (1, Done) ∷ (2, Done) ∷ (3, Done) ∷ (4, Done) ∷ (5, Done) ∷ []) (replicate 6 false))
     ∷ (chain 6, Submit 0 ∷ [], ran (Is Held ∷ []) [] (replicate 7 false))
-    -- handed in again: the fate is the answer, and nothing changes
+    -- handed in again: answered with its fate, in the same state
     ∷ (sheetA, Submit 0 ∷ Submit 0 ∷ Submit 1 ∷ Submit 0 ∷ [], ran (Is Held ∷ Is Held ∷ Is Done ∷ Is Done ∷ []) ((0, Done) ∷ (1, Done) ∷ []) (false ∷ false ∷ []))
     ∷ (sheetG, Submit 1 ∷ Submit 0 ∷ Submit 0 ∷ [], ran (Is Done ∷ Is Refused ∷ Is Refused ∷ []) ((1, Done) ∷ (0, Refused) ∷ []) (false ∷ []))
     -- numbers 9, 10 and 11, and an event of a closed step
@@ -190,13 +190,13 @@ brought =
     -- an event that isn't open: nothing changes, though 0 could be done; winding up settles first
     ∷ (hold (firstOn sheetG) 0, Submit 0 ∷ [], Is Held ∷ [])
     ∷ (shut (hold (firstOn (1 ∷ 0 ∷ 6 ∷ 5 ∷ [])) 0) 0, Finish ∷ Submit 0 ∷ [], Made ∷ Is Done ∷ [])
-    -- 12: a count passes its limit
+    -- 12: too many events, rules or lines
     ∷ (firstState (counting 16 0), Finish ∷ [], TurnedDown NotClosed ∷ [])
     ∷ (firstState (counting 17 0), Finish ∷ [], TurnedDown Incoherent ∷ [])
     ∷ (firstState (counting 0 17), Finish ∷ [], TurnedDown Incoherent ∷ [])
     ∷ (doAll (firstState (counting 16 0)) (tabulate 16 0 (λ e. e)), Finish ∷ [], TurnedDown NotClosed ∷ [])
     ∷ (withLines 17 (doAll (firstState (counting 16 0)) (tabulate 16 0 (λ e. e))), Finish ∷ [], TurnedDown Incoherent ∷ [])
-    -- a declared event or rule is one that a sheet would be turned down for
+    -- 12: an event or a rule that no sheet can declare
     ∷ (firstState (addEvent emptyPlan 8 0), Submit 0 ∷ [], TurnedDown Incoherent ∷ [])
     ∷ (firstState (addEvent emptyPlan 0 4), Submit 0 ∷ [], TurnedDown Incoherent ∷ [])
     ∷ (firstState (addRule (addEvent emptyPlan 0 7) (Need 0 0)), Submit 0 ∷ [], TurnedDown Incoherent ∷ [])
@@ -208,10 +208,10 @@ brought =
     ∷ (settleAs Done (settleAs Done (firstOn sheetG) 1) 1, Submit 0 ∷ [], TurnedDown Incoherent ∷ [])
     ∷ (hold (settleAs Done (firstOn sheetG) 0) 0, Submit 1 ∷ [], TurnedDown Incoherent ∷ [])
     ∷ (withLines 1 (settleAs Refused (settleAs Done (firstOn sheetG) 0) 0), Submit 1 ∷ [], TurnedDown Incoherent ∷ [])
-    -- a held event is not delayable; an open event's step is closed
+    -- 12: held without being delayable; open in a closed step
     ∷ (hold (firstOn sheetD) 0, Submit 1 ∷ [], TurnedDown Incoherent ∷ [])
     ∷ (shut (firstOn sheetD) 0, Submit 1 ∷ [], TurnedDown Incoherent ∷ [])
-    -- an unbroken rule owes, or doesn't hold; a recorded one may
+    -- 12: a rule owes, or is violated, and is not recorded
     ∷ (settleAs Done (firstOn sheetD) 0, Submit 1 ∷ [], TurnedDown Incoherent ∷ [])
     ∷ (breakRule (settleAs Done (firstOn sheetD) 0) 0, Submit 1 ∷ [], Is Done ∷ [])
     ∷ (settleAs Done (settleAs Done (firstOn sheetG) 1) 0, Submit 1 ∷ [], TurnedDown Incoherent ∷ [])

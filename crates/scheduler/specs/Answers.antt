@@ -7,7 +7,7 @@ use Rattle.scheduler.specs.State.{fateOf, closedAt}
 use Rattle.scheduler.specs.Calls.{submit, closeStep, finish}
 use Rattle.scheduler.specs.Coherent.{coherent}
 
--- some step has an event and is not closed (10.2, 10.3)
+-- this step has events and is still open (10.2, 10.3)
 abbrev pub unclosedAt : State → ℕ → Bool
 unclosedAt s k = hasEvent (s .plan) k && not (closedAt s k)
 
@@ -26,7 +26,7 @@ accept s (Submit e) = let t = submit s e in record { answer = Is (fateOf t e); s
 accept s (Close k) = record { answer = Made; state = closeStep s k }
 accept s Finish = record { answer = Made; state = finish s }
 
--- a call turned down gives back the state as it came in (10.1)
+-- a call turned down leaves the state alone (10.1)
 abbrev pub turnedDownBy : CallFault → State → Reply
 turnedDownBy f s = record { answer = TurnedDown f; state = s }
 

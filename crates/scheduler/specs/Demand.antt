@@ -167,7 +167,7 @@ abbrev pub Grows : List Entry → Story → Type 0
 Grows h [] = Unit {0}
 Grows h (x ∷ xs) = Extends h (x .1) × Grows (x .1) xs
 
--- one claim about a whole list and the state after it (11.11, 11.12)
+-- the one claim, of a list of calls and the last state (11.11, 11.12)
 pub record Demand3 (p : Plan) (story : Story) (end : State) : Type 0 where
   pub claim : Holds p (observeAll p nothingYet story) end
   pub grows : Grows [] story

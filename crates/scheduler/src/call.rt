@@ -35,7 +35,7 @@ ghost use Rattle.scheduler.specs.Answers.{unclosedAt, turnedDownBy, call
 ghost use Rattle.scheduler.specs.Internal.Turned.{turnOf, lapseIf};
 
 impl State {
-    // Hand in an event: the answer is its fate.
+    // Hand in an event; answered with the fate it has then.
     pub fn submit(self, event: u8) -> Reply
         ensures { λ r. ⌜ r ≡ call self (Submit event) ⌝ }
     {
@@ -130,7 +130,7 @@ impl State {
         self
     }
 
-    // Does the event alone, and records as broken each rule that forbids it or owes afterwards.
+    // Does the event by itself; a rule that stood against it, or asks for more after it, is recorded.
     fn do_alone(self, event: u8) -> State
         ensures { λ r. ⌜ r ≡ doAlone self event ⌝ }
     {

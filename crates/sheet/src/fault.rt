@@ -74,7 +74,7 @@ fn check_rule(plan: Plan, rule: Rule) -> Check
     Check::Fine
 }
 
-// Row 3: would the record make more than 16 events or 16 rules?
+// Row 3: is there no room for what the record declares?
 fn is_full(plan: Plan, kind: u8) -> bool
     ensures { λ r. ⌜ r ≡ isFull plan kind ⌝ }
 {

@@ -52,7 +52,7 @@ shape-settle x s e h = record { same-plan = plan-settle x s e ∙ h .same-plan; 
 pub shape-hold : {p : Plan} (s : State) (e : ℕ) → Shape p s → Shape p (hold s e)
 shape-hold s e h = record { same-plan = plan-hold s e ∙ h .same-plan; sized = sized-hold s e (h .sized) }
 
--- the history lists exactly the settled events, once each with their fates
+-- each settled event has one line, with its fate, and there are no other lines
 pub record HistoryListed (p : Plan) (s : State) : Type 0 where
   pub shape : Shape p s
   pub few : eventCount p ≤ 16

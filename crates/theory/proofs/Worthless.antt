@@ -116,7 +116,7 @@ scheduled s c = call s c .state
 unfoldable pub untouched : State → Bool
 untouched s = allBelow (eventCount (s .plan)) (λ e. isOpen (fateOf s e)) && allBelow 8 (λ k. not (closedAt s k))
 
--- schedules the first call and only answers afterwards
+-- works on the first call and none after it
 unfoldable pub once-only : Scheduler
 once-only s c = elim (untouched s) [ true ↦ scheduler s c | false ↦ s ]
 

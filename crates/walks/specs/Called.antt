@@ -67,7 +67,8 @@ module _ {M : Type 1} (𝓤 : URA M) (H : Heap 𝓤) (A : Atoms 𝓤) (T : Ended
 
     -- the `ensures` says, at any last values, that the result is x
     abbrev pub Says : Res (T .signature) (y .0 .0) → Type 1
-    Says x = (r : Res (T .signature) (y .0 .0)) (ws : Lasts T (y .0 .0) (y .0 .3)) → ent 𝓤 (c (y .0 .0) (y .0 .3) .ensures (y .1) r (atExit T (y .0 .0) (y .0 .3) ws)) (fact 𝓤 (r ≡ x))
+    Says x = (r : Res (T .signature) (y .0 .0)) (ws : Lasts T (y .0 .0) (y .0 .3))
+        → ent 𝓤 (c (y .0 .0) (y .0 .3) .ensures (y .1) r (atExit T (y .0 .0) (y .0 .3) ws)) (fact 𝓤 (r ≡ x))
 
     -- the machine value of x is v
     abbrev pub Tells : Res (T .signature) (y .0 .0) → Val → Type 0
@@ -75,29 +76,56 @@ module _ {M : Type 1} (𝓤 : URA M) (H : Heap 𝓤) (A : Atoms 𝓤) (T : Ended
 
 module _ {M : Type 1} {𝓤 : URA M} {H : Heap 𝓤} {A : Atoms 𝓤} {K : Type 0} {W : Given 𝓤 H A} {Γ : List (Item 𝓤)} where
   -- once the call has returned, what x owns and the tokens stand in the context
-  landed : K → (T : Ended) (c : Clauses 𝓤 T) (y : Its 𝓤 H A T c .Ghost) (x : Res (T .signature) (y .0 .0)) (v : Val) (G : Val → Goal 𝓤 H) → ((u : Val) → Soaks (G u)) → Says 𝓤 H A T c y x → Tells 𝓤 H A T c y x v
-      → (Is (Row 𝓤 H A T c y) x (v ∷ []) → Seq K W (‵ (Row 𝓤 H A T c y .own x (v ∷ [])) ∷ raw (Tokens 𝓤 H A T c y) ∷ Γ) (G v)) → (u : Val) → Seq K W (raw (Its 𝓤 H A T c .post y u) ∷ Γ) (G u)
+  landed : K
+      → (T : Ended) (c : Clauses 𝓤 T) (y : Its 𝓤 H A T c .Ghost) (x : Res (T .signature) (y .0 .0)) (v : Val) (G : Val → Goal 𝓤 H)
+      → ((u : Val) → Soaks (G u)) → Says 𝓤 H A T c y x → Tells 𝓤 H A T c y x v
+      → (Is (Row 𝓤 H A T c y) x (v ∷ []) → Seq K W (‵ (Row 𝓤 H A T c y .own x (v ∷ [])) ∷ raw (Tokens 𝓤 H A T c y) ∷ Γ) (G v))
+      → (u : Val) → Seq K W (raw (Its 𝓤 H A T c .post y u) ∷ Γ) (G u)
   landed t T c y x v G z says tells k u =
-      use1 W (in-time (some (λ (r : Res (T .signature) (y .0 .0)). (raw (Tokens 𝓤 H A T c y) ⊛ ‵ (Row 𝓤 H A T c y .own r (u ∷ []))) ⊛ raw (ensured 𝓤 H A T c (y .0 .0) (y .0 .3) (y .1) r)))) (id⊢ 𝓤 _) $
+      use1 W
+      (in-time
+      (some (λ (r : Res (T .signature) (y .0 .0)).
+      (raw (Tokens 𝓤 H A T c y) ⊛ ‵ (Row 𝓤 H A T c y .own r (u ∷ [])))
+      ⊛ raw (ensured 𝓤 H A T c (y .0 .0) (y .0 .3) (y .1) r))))
+      (id⊢ 𝓤 _) $
       await t (z u) $ pick t (λ r. split t $ move t (1 ∷ []) $
-      use1 W (raw (fact 𝓤 (r ≡ x))) (exE 𝓤 _ (λ ws. via 𝓤 (c (y .0 .0) (y .0 .3) .ensures (y .1) r (atExit T (y .0 .0) (y .0 .3) ws)) (snd∗ 𝓤 (sem 𝓤 H A (lasts T (y .0 .0) (y .0 .3) ws)) (c (y .0 .0) (y .0 .3) .ensures (y .1) r (atExit T (y .0 .0) (y .0 .3) ws))) (says r ws))) $
-      heard t (r ≡ x) (λ e. split t $ move t (1 ∷ []) $ rewrite t 0 (λ (r′ : Res (T .signature) (y .0 .0)). ‵ (Row 𝓤 H A T c y .own r′ (u ∷ []))) e refl $
+      use1 W (raw (fact 𝓤 (r ≡ x)))
+      (exE 𝓤 _ (λ ws.
+      via 𝓤 (c (y .0 .0) (y .0 .3) .ensures (y .1) r (atExit T (y .0 .0) (y .0 .3) ws))
+      (snd∗ 𝓤 (sem 𝓤 H A (lasts T (y .0 .0) (y .0 .3) ws))
+      (c (y .0 .0) (y .0 .3) .ensures (y .1) r (atExit T (y .0 .0) (y .0 .3) ws)))
+      (says r ws))) $
+      heard t (r ≡ x) (λ e. split t $ move t (1 ∷ []) $
+      rewrite t 0 (λ (r′ : Res (T .signature) (y .0 .0)). ‵ (Row 𝓤 H A T c y .own r′ (u ∷ []))) e refl $
       peeks t (Row 𝓤 H A T c y) (Is (Row 𝓤 H A T c y)) (shows 𝓤 H A (Row 𝓤 H A T c y)) x (u ∷ []) (λ is.
-      subst (λ (w : Val). Seq K W (‵ (Row 𝓤 H A T c y .own x (w ∷ [])) ∷ raw (Tokens 𝓤 H A T c y) ∷ Γ) (G w)) (sym (ap only (tells (u ∷ []) is)))
+      subst (λ (w : Val). Seq K W (‵ (Row 𝓤 H A T c y .own x (w ∷ [])) ∷ raw (Tokens 𝓤 H A T c y) ∷ Γ) (G w))
+      (sym (ap only (tells (u ∷ []) is)))
       (k (subst (λ (w : Val). Is (Row 𝓤 H A T c y) x (w ∷ [])) (ap only (tells (u ∷ []) is)) is)))))
 
   module _ {E : Env 𝓤 H} {C : Calls 𝓤 H} {f : Name} {xs : List Operand} {Λ : Loops 𝓤 H} {q : Post 𝓤 H} {d : Place} where
     -- a call: the callee's theorem, what it is passed (y), the result (x, v), and an item i of the context that gives
     -- what it asks
-    pub calls-known : K → FmC 𝓤 H (W .laws) C → {rest : Body} (T : Ended) (c : Clauses 𝓤 T) → Triple 𝓤 (C f) (Its 𝓤 H A T c) → (y : Its 𝓤 H A T c .Ghost) (x : Res (T .signature) (y .0 .0)) (v : Val)
-        → (i : Item 𝓤) → ent 𝓤 (mean 𝓤 H A i) (Its 𝓤 H A T c .pre y) → Says 𝓤 H A T c y x → Tells 𝓤 H A T c y x v → Opds K W (i ∷ Γ) E xs (passed 𝓤 H A (T .signature) (y .0))
-        → (Is (Row 𝓤 H A T c y) x (v ∷ []) → Seq K W (‵ (Row 𝓤 H A T c y .own x (v ∷ [])) ∷ raw (Tokens 𝓤 H A T c y) ∷ Γ) (lands C Λ E d v rest q)) → Seq K W (i ∷ Γ) (runs C Λ E (seq (call f xs d) rest) q)
+    pub calls-known : K → FmC 𝓤 H (W .laws) C → {rest : Body} (T : Ended) (c : Clauses 𝓤 T)
+        → Triple 𝓤 (C f) (Its 𝓤 H A T c)
+        → (y : Its 𝓤 H A T c .Ghost) (x : Res (T .signature) (y .0 .0)) (v : Val)
+        → (i : Item 𝓤) → ent 𝓤 (mean 𝓤 H A i) (Its 𝓤 H A T c .pre y) → Says 𝓤 H A T c y x
+        → Tells 𝓤 H A T c y x v → Opds K W (i ∷ Γ) E xs (passed 𝓤 H A (T .signature) (y .0))
+        → (Is (Row 𝓤 H A T c y) x (v ∷ []) → Seq K W (‵ (Row 𝓤 H A T c y .own x (v ∷ [])) ∷ raw (Tokens 𝓤 H A T c y) ∷ Γ) (lands C Λ E d v rest q))
+        → Seq K W (i ∷ Γ) (runs C Λ E (seq (call f xs d) rest) q)
     calls-known t fm {rest} T c met y x v i gives says tells os k =
-        calls-from t fm i (passed 𝓤 H A (T .signature) (y .0)) (Its 𝓤 H A T c .post y) (via 𝓤 (Its 𝓤 H A T c .pre y) gives (met y)) os (landed t T c y x v (λ w. lands C Λ E d w rest q) (λ _. tt) says tells k)
+        calls-from t fm i (passed 𝓤 H A (T .signature) (y .0)) (Its 𝓤 H A T c .post y)
+        (via 𝓤 (Its 𝓤 H A T c .pre y) gives (met y)) os
+        (landed t T c y x v (λ w. lands C Λ E d w rest q) (λ _. tt) says tells k)
 
     -- the same for the last statement of its part
-    pub calls-known-last : K → FmC 𝓤 H (W .laws) C → (T : Ended) (c : Clauses 𝓤 T) → Triple 𝓤 (C f) (Its 𝓤 H A T c) → (y : Its 𝓤 H A T c .Ghost) (x : Res (T .signature) (y .0 .0)) (v : Val)
-        → (i : Item 𝓤) → ent 𝓤 (mean 𝓤 H A i) (Its 𝓤 H A T c .pre y) → Says 𝓤 H A T c y x → Tells 𝓤 H A T c y x v → Opds K W (i ∷ Γ) E xs (passed 𝓤 H A (T .signature) (y .0))
-        → (Is (Row 𝓤 H A T c y) x (v ∷ []) → Seq K W (‵ (Row 𝓤 H A T c y .own x (v ∷ [])) ∷ raw (Tokens 𝓤 H A T c y) ∷ Γ) (settles E d v q)) → Seq K W (i ∷ Γ) (runs C Λ E (call f xs d) q)
+    pub calls-known-last : K → FmC 𝓤 H (W .laws) C → (T : Ended) (c : Clauses 𝓤 T)
+        → Triple 𝓤 (C f) (Its 𝓤 H A T c)
+        → (y : Its 𝓤 H A T c .Ghost) (x : Res (T .signature) (y .0 .0)) (v : Val)
+        → (i : Item 𝓤) → ent 𝓤 (mean 𝓤 H A i) (Its 𝓤 H A T c .pre y) → Says 𝓤 H A T c y x
+        → Tells 𝓤 H A T c y x v → Opds K W (i ∷ Γ) E xs (passed 𝓤 H A (T .signature) (y .0))
+        → (Is (Row 𝓤 H A T c y) x (v ∷ []) → Seq K W (‵ (Row 𝓤 H A T c y .own x (v ∷ [])) ∷ raw (Tokens 𝓤 H A T c y) ∷ Γ) (settles E d v q))
+        → Seq K W (i ∷ Γ) (runs C Λ E (call f xs d) q)
     calls-known-last t fm T c met y x v i gives says tells os k =
-        calls-from-last t fm i (passed 𝓤 H A (T .signature) (y .0)) (Its 𝓤 H A T c .post y) (via 𝓤 (Its 𝓤 H A T c .pre y) gives (met y)) os (landed t T c y x v (λ w. settles E d w q) (λ _. tt) says tells k)
+        calls-from-last t fm i (passed 𝓤 H A (T .signature) (y .0)) (Its 𝓤 H A T c .post y)
+        (via 𝓤 (Its 𝓤 H A T c .pre y) gives (met y)) os
+        (landed t T c y x v (λ w. settles E d w q) (λ _. tt) says tells k)

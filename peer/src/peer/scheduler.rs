@@ -43,11 +43,11 @@ pub struct Line {
 /// from admitted sheets and calls.
 #[derive(Clone, Copy, Debug, PartialEq, Eq)]
 pub enum Reason {
-    /// 9: no such event, or a step to close has no event.
+    /// 9: the event or the step is not on the sheet.
     NoSuch = 9,
     /// 10: step already closed.
     ClosedAlready = 10,
-    /// 11: winding up with a step that has an event and is not closed.
+    /// 11: wound up too early, with a step of the sheet still open.
     StepNotClosed = 11,
 }
 
@@ -128,7 +128,7 @@ impl Scheduler {
     }
 
     /// Hands in an event and gives its fate. One that is not open is accepted:
-    /// its fate is the answer and nothing is settled.
+    /// the answer says its fate and the state stays as it is.
     pub fn submit(&mut self, event: u8) -> Result<Fate, Reason> {
         if usize::from(event) >= self.sheet.events() {
             return Err(Reason::NoSuch);

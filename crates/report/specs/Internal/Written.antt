@@ -31,11 +31,15 @@ head events rules = line (eventsWord ␣ decimal events ␣ rulesWord ␣ decima
 
 unfoldable pub tail : ℕ → ℕ → ℕ → List ℕ
 tail held broken refused =
-    line (fateWord Held ␣ decimal held) ++ line (brokenWord ␣ decimal broken) ++ line (fateWord Refused ␣ callsWord ␣ decimal refused)
+    line (fateWord Held ␣ decimal held)
+    ++ line (brokenWord ␣ decimal broken)
+    ++ line (fateWord Refused ␣ callsWord ␣ decimal refused)
 
 unfoldable pub stateText : State → ℕ → List ℕ
 stateText s refused =
-    head (eventCount (s .plan)) (ruleCount (s .plan)) ++ historyLines (lines s) ++ tail (heldCount s) (brokenCount s) refused
+    head (eventCount (s .plan)) (ruleCount (s .plan))
+    ++ historyLines (lines s)
+    ++ tail (heldCount s) (brokenCount s) refused
 
 unfoldable pub faultLine : SheetFault → ℕ → List ℕ
 faultLine f at = line (fateWord Refused ␣ decimal (sheetFaultNumber f) ␣ atWord ␣ decimal at)

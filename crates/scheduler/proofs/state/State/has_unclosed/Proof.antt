@@ -1,4 +1,4 @@
--- `State::has_unclosed` meets its contract. The loop: no step below has an event and is not closed.
+-- `State::has_unclosed` meets its contract. The loop: every step below that has events is closed.
 use Prim.Native.Nat.{_≤_, _-_}
 use native.Mathlib.Omega.{arith}
 use mathlib.Core.Bool.{false, not, _&&_}
