@@ -42,7 +42,7 @@ pub enum Verdict {
     Faulty(SheetFault, usize),
 }
 
-// The number that document 01's table gives.
+// The number that the table gives (4.2).
 pub fn sheet_fault_number(fault: SheetFault) -> usize
     ensures { λ r. ⌜ r ≡ sheetFaultNumber fault ⌝ }
 {

@@ -16,10 +16,10 @@ use Rattle.plan.specs.Base.{anyBelow, readAt}
 use Rattle.plan.specs.Plans.{blankEvent, eventCount, ruleCount, stepOf, ruleAt, rejectable, delayable, hasEvent}
 use Rattle.scheduler.specs.State.{fateOf, closedAt, hold, settleAs, shut, breakRule}
 use Rattle.plan.specs.Fates.{isOpen}
-use Rattle.scheduler.specs.Rules.{stands}
+use Rattle.scheduler.specs.Rules.{stands, strains}
 use Rattle.plan.specs.Rules.{forbids, owes}
 use Rattle.scheduler.specs.Orders.{chosen, doAll, foundOrder}
-use Rattle.scheduler.specs.Calls.{settle, strains, breakIf, recordBroken, doAlone, decide, submit, lapse, closeStep, finish}
+use Rattle.scheduler.specs.Calls.{settle, breakIf, recordBroken, doAlone, decide, submit, lapse, closeStep, finish}
 use Rattle.plan.specs.Faults.{firstFault}
 use Rattle.scheduler.specs.Coherent.{coherent}
 use Rattle.scheduler.specs.Answers.{unclosedAt, callRows, callFault, accept, turnedDownBy, call}

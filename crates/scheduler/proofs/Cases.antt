@@ -1,4 +1,4 @@
--- The marked cases of document 01 and further rows, in one joint proof over a list, by computation. Bytes are written
+-- The marked cases (section 14) and further rows, in one joint proof over a list, by computation. Bytes are written
 -- in decimal.
 use Prim.Native.Nat.{ℕ, zero, suc}
 use mathlib.Core.Bool.{Bool, true, false}
@@ -11,10 +11,10 @@ use Rattle.plan.specs.Base.{anyBelow, allBelow, countBelow, firstOf, tabulate, 
 use Rattle.plan.specs.Plans.{ruleCount, emptyPlan, hasEvent}
 use Rattle.scheduler.specs.State.{firstState, emptyState, lines, hold, settleAs, shut, breakRule}
 use Rattle.plan.specs.Rules.{named, enforceable, soundEvent, soundRule, bars, makesWait, forbids, owes, ready}
-use Rattle.scheduler.specs.Rules.{barred, forbidden, owing}
+use Rattle.scheduler.specs.Rules.{barred, forbidden, owing, strains}
 use Rattle.plan.specs.Histories.{listedAs, fatesIn, anyDone, doneIn, doneInTurn, holds, declaredOnly, sameFates}
 use Rattle.scheduler.specs.Orders.{mayDo, doAll, orderOf, chosen}
-use Rattle.scheduler.specs.Calls.{toRefuse, toDo, settleOnce, settleUpTo, settle, strains, recordBroken, doAlone, decide, submit, lapse, closeStep, refuseHeld, finish}
+use Rattle.scheduler.specs.Calls.{toRefuse, toDo, settleOnce, settleUpTo, settle, recordBroken, doAlone, decide, submit, lapse, closeStep, refuseHeld, finish}
 use Rattle.plan.specs.Faults.{sheetFaultNumber, firstFault}
 use Rattle.scheduler.specs.Coherent.{coherentEvent, coherentRule, coherent}
 use Rattle.scheduler.specs.Answers.{callFault, accept, call}
@@ -94,68 +94,172 @@ cases =
     -- G
     ∷ (sheetG, Submit 1 ∷ Submit 0 ∷ [], ran (Is Done ∷ Is Refused ∷ []) ((1, Done) ∷ (0, Refused) ∷ []) (false ∷ []))
     -- H
-    ∷ (1 ∷ 0 ∷ 6 ∷ 1 ∷ 1 ∷ 6 ∷ 2 ∷ 0 ∷ 1 ∷ 2 ∷ 1 ∷ 0 ∷ 5 ∷ [], Submit 0 ∷ Submit 1 ∷ Close 0 ∷ Close 1 ∷ Finish ∷ [], ran (Is Held ∷ Is Held ∷ Made ∷ Made ∷ Made ∷ []) ((0, Refused) ∷ (1, Done) ∷ []) (false ∷ false ∷ []))
+    ∷ (
+      1 ∷ 0 ∷ 6 ∷ 1 ∷ 1 ∷ 6 ∷ 2 ∷ 0 ∷ 1 ∷ 2 ∷ 1 ∷ 0 ∷ 5 ∷ [],
+      Submit 0 ∷ Submit 1 ∷ Close 0 ∷ Close 1 ∷ Finish ∷ [],
+      ran (Is Held ∷ Is Held ∷ Made ∷ Made ∷ Made ∷ []) ((0, Refused) ∷ (1, Done) ∷ []) (false ∷ false ∷ []),
+    )
     -- I
     ∷ ([], [], rejected 1 0)
     ∷ (5 ∷ [], [], ran [] [] [])
     ∷ (5 ∷ 5 ∷ [], [], rejected 8 1)
     ∷ (1 ∷ 0 ∷ 4 ∷ 5 ∷ [], [], rejected 5 0)
     -- L
-    ∷ (sheetL, Submit 0 ∷ Submit 1 ∷ Close 2 ∷ [], ran (Is Done ∷ Is Held ∷ Made ∷ []) ((0, Done) ∷ (2, Lapsed) ∷ (1, Refused) ∷ []) (false ∷ []))
+    ∷ (
+      sheetL,
+      Submit 0 ∷ Submit 1 ∷ Close 2 ∷ [],
+      ran (Is Done ∷ Is Held ∷ Made ∷ []) ((0, Done) ∷ (2, Lapsed) ∷ (1, Refused) ∷ []) (false ∷ []),
+    )
     -- open events lapse lowest first
     ∷ (1 ∷ 0 ∷ 6 ∷ 1 ∷ 0 ∷ 6 ∷ 5 ∷ [], Close 0 ∷ [], ran (Made ∷ []) ((0, Lapsed) ∷ (1, Lapsed) ∷ []) [])
     -- orders 2, 0 and 2, 1: the lowest held event with a viable order is 0, by the order 2, 0
-    ∷ (1 ∷ 0 ∷ 6 ∷ 1 ∷ 0 ∷ 6 ∷ 1 ∷ 0 ∷ 6 ∷ 2 ∷ 2 ∷ 0 ∷ 2 ∷ 2 ∷ 1 ∷ 5 ∷ [], Submit 0 ∷ Submit 1 ∷ Submit 2 ∷ [], ran (Is Held ∷ Is Held ∷ Is Done ∷ []) ((2, Done) ∷ (0, Done) ∷ (1, Done) ∷ []) (false ∷ false ∷ []))
+    ∷ (
+      1 ∷ 0 ∷ 6 ∷ 1 ∷ 0 ∷ 6 ∷ 1 ∷ 0 ∷ 6 ∷ 2 ∷ 2 ∷ 0 ∷ 2 ∷ 2 ∷ 1 ∷ 5 ∷ [],
+      Submit 0 ∷ Submit 1 ∷ Submit 2 ∷ [],
+      ran (Is Held ∷ Is Held ∷ Is Done ∷ []) ((2, Done) ∷ (0, Done) ∷ (1, Done) ∷ []) (false ∷ false ∷ []),
+    )
     -- a forcible event that nobody needs is left open
     ∷ (1 ∷ 0 ∷ 1 ∷ 1 ∷ 0 ∷ 6 ∷ 5 ∷ [], Submit 1 ∷ [], ran (Is Done ∷ []) ((1, Done) ∷ []) [])
     -- the lowest held event goes first, by an order of two (0, 3), and not 1, which could go alone
-    ∷ (1 ∷ 0 ∷ 6 ∷ 1 ∷ 0 ∷ 6 ∷ 1 ∷ 1 ∷ 6 ∷ 1 ∷ 0 ∷ 1 ∷ 2 ∷ 2 ∷ 0 ∷ 2 ∷ 2 ∷ 1 ∷ 3 ∷ 0 ∷ 3 ∷ 5 ∷ [], Submit 0 ∷ Submit 1 ∷ Close 1 ∷ [], ran (Is Held ∷ Is Held ∷ Made ∷ []) ((2, Lapsed) ∷ (0, Done) ∷ (3, Done) ∷ (1, Done) ∷ []) (false ∷ false ∷ false ∷ []))
+    ∷ (
+      1 ∷ 0 ∷ 6 ∷ 1 ∷ 0 ∷ 6 ∷ 1 ∷ 1 ∷ 6 ∷ 1 ∷ 0 ∷ 1 ∷ 2 ∷ 2 ∷ 0 ∷ 2 ∷ 2 ∷ 1 ∷ 3 ∷ 0 ∷ 3 ∷ 5 ∷ [],
+      Submit 0 ∷ Submit 1 ∷ Close 1 ∷ [],
+      ran (Is Held ∷ Is Held ∷ Made ∷ []) ((2, Lapsed) ∷ (0, Done) ∷ (3, Done) ∷ (1, Done) ∷ []) (false ∷ false ∷ false ∷ []),
+    )
     -- a barred event (1, by need 1, 3) is refused before 0 is done
-    ∷ (1 ∷ 0 ∷ 6 ∷ 1 ∷ 0 ∷ 6 ∷ 1 ∷ 1 ∷ 6 ∷ 1 ∷ 1 ∷ 6 ∷ 2 ∷ 2 ∷ 0 ∷ 3 ∷ 1 ∷ 3 ∷ 5 ∷ [], Submit 0 ∷ Submit 1 ∷ Close 1 ∷ [], ran (Is Held ∷ Is Held ∷ Made ∷ []) ((2, Lapsed) ∷ (3, Lapsed) ∷ (1, Refused) ∷ (0, Done) ∷ []) (false ∷ false ∷ []))
+    ∷ (
+      1 ∷ 0 ∷ 6 ∷ 1 ∷ 0 ∷ 6 ∷ 1 ∷ 1 ∷ 6 ∷ 1 ∷ 1 ∷ 6 ∷ 2 ∷ 2 ∷ 0 ∷ 3 ∷ 1 ∷ 3 ∷ 5 ∷ [],
+      Submit 0 ∷ Submit 1 ∷ Close 1 ∷ [],
+      ran (Is Held ∷ Is Held ∷ Made ∷ []) ((2, Lapsed) ∷ (3, Lapsed) ∷ (1, Refused) ∷ (0, Done) ∷ []) (false ∷ false ∷ []),
+    )
     -- two held triggers are not barred: order 3 before both, conditional 0, 1, 2
-    ∷ (1 ∷ 0 ∷ 6 ∷ 1 ∷ 0 ∷ 6 ∷ 1 ∷ 1 ∷ 6 ∷ 1 ∷ 0 ∷ 6 ∷ 2 ∷ 3 ∷ 0 ∷ 2 ∷ 3 ∷ 1 ∷ 4 ∷ 0 ∷ 1 ∷ 2 ∷ 5 ∷ [], Submit 0 ∷ Submit 1 ∷ Close 1 ∷ Submit 3 ∷ [], ran (Is Held ∷ Is Held ∷ Made ∷ Is Done ∷ []) ((2, Lapsed) ∷ (3, Done) ∷ (0, Done) ∷ (1, Refused) ∷ []) (false ∷ false ∷ false ∷ []))
+    ∷ (
+      1 ∷ 0 ∷ 6 ∷ 1 ∷ 0 ∷ 6 ∷ 1 ∷ 1 ∷ 6 ∷ 1 ∷ 0 ∷ 6 ∷ 2 ∷ 3 ∷ 0 ∷ 2 ∷ 3 ∷ 1 ∷ 4 ∷ 0 ∷ 1 ∷ 2 ∷ 5 ∷ [],
+      Submit 0 ∷ Submit 1 ∷ Close 1 ∷ Submit 3 ∷ [],
+      ran (Is Held ∷ Is Held ∷ Made ∷ Is Done ∷ []) ((2, Lapsed) ∷ (3, Done) ∷ (0, Done) ∷ (1, Refused) ∷ []) (false ∷ false ∷ false ∷ []),
+    )
     -- nor is a trigger barred by one that lapsed; and c done bars nothing
-    ∷ (1 ∷ 0 ∷ 6 ∷ 1 ∷ 1 ∷ 6 ∷ 1 ∷ 1 ∷ 6 ∷ 4 ∷ 0 ∷ 1 ∷ 2 ∷ 4 ∷ 1 ∷ 0 ∷ 2 ∷ 5 ∷ [], Close 1 ∷ Submit 0 ∷ [], ran (Made ∷ Is Done ∷ []) ((1, Lapsed) ∷ (2, Lapsed) ∷ (0, Done) ∷ []) (false ∷ false ∷ []))
-    ∷ (sheetL, Submit 2 ∷ Submit 0 ∷ Submit 1 ∷ [], ran (Is Done ∷ Is Done ∷ Is Done ∷ []) ((2, Done) ∷ (0, Done) ∷ (1, Done) ∷ []) (false ∷ []))
+    ∷ (
+      1 ∷ 0 ∷ 6 ∷ 1 ∷ 1 ∷ 6 ∷ 1 ∷ 1 ∷ 6 ∷ 4 ∷ 0 ∷ 1 ∷ 2 ∷ 4 ∷ 1 ∷ 0 ∷ 2 ∷ 5 ∷ [],
+      Close 1 ∷ Submit 0 ∷ [],
+      ran (Made ∷ Is Done ∷ []) ((1, Lapsed) ∷ (2, Lapsed) ∷ (0, Done) ∷ []) (false ∷ false ∷ []),
+    )
+    ∷ (
+      sheetL,
+      Submit 2 ∷ Submit 0 ∷ Submit 1 ∷ [],
+      ran (Is Done ∷ Is Done ∷ Is Done ∷ []) ((2, Done) ∷ (0, Done) ∷ (1, Done) ∷ []) (false ∷ []),
+    )
     -- settling goes on: four events waited for 4
-    ∷ (times 4 (1 ∷ 0 ∷ 6 ∷ []) ++ (1 ∷ 1 ∷ 6 ∷ 2 ∷ 4 ∷ 0 ∷ 2 ∷ 4 ∷ 1 ∷ 2 ∷ 4 ∷ 2 ∷ 2 ∷ 4 ∷ 3 ∷ 5 ∷ []), Submit 3 ∷ Submit 2 ∷ Submit 1 ∷ Submit 0 ∷ Close 1 ∷ [], ran (Is Held ∷ Is Held ∷ Is Held ∷ Is Held ∷ Made ∷ []) ((4, Lapsed) ∷ (0, Done) ∷ (1, Done) ∷ (2, Done) ∷ (3, Done) ∷ []) (replicate 4 false))
+    ∷ (
+      times 4 (1 ∷ 0 ∷ 6 ∷ []) ++ (1 ∷ 1 ∷ 6 ∷ 2 ∷ 4 ∷ 0 ∷ 2 ∷ 4 ∷ 1 ∷ 2 ∷ 4 ∷ 2 ∷ 2 ∷ 4 ∷ 3 ∷ 5 ∷ []),
+      Submit 3 ∷ Submit 2 ∷ Submit 1 ∷ Submit 0 ∷ Close 1 ∷ [],
+      ran (Is Held ∷ Is Held ∷ Is Held ∷ Is Held ∷ Made ∷ []) ((4, Lapsed) ∷ (0, Done) ∷ (1, Done) ∷ (2, Done) ∷ (3, Done) ∷ []) (replicate 4 false),
+    )
     -- winding up goes on: two pairs as in H
-    ∷ (times 4 (1 ∷ 7 ∷ 6 ∷ []) ++ (2 ∷ 0 ∷ 1 ∷ 2 ∷ 1 ∷ 0 ∷ 2 ∷ 2 ∷ 3 ∷ 2 ∷ 3 ∷ 2 ∷ 5 ∷ []), Submit 0 ∷ Submit 1 ∷ Submit 2 ∷ Submit 3 ∷ Finish ∷ Close 7 ∷ Close 7 ∷ Finish ∷ [], ran (Is Held ∷ Is Held ∷ Is Held ∷ Is Held ∷ TurnedDown NotClosed ∷ Made ∷ TurnedDown AlreadyClosed ∷ Made ∷ []) ((0, Refused) ∷ (1, Done) ∷ (2, Refused) ∷ (3, Done) ∷ []) (replicate 4 false))
+    ∷ (
+      times 4 (1 ∷ 7 ∷ 6 ∷ []) ++ (2 ∷ 0 ∷ 1 ∷ 2 ∷ 1 ∷ 0 ∷ 2 ∷ 2 ∷ 3 ∷ 2 ∷ 3 ∷ 2 ∷ 5 ∷ []),
+      Submit 0 ∷ Submit 1 ∷ Submit 2 ∷ Submit 3 ∷ Finish ∷ Close 7 ∷ Close 7 ∷ Finish ∷ [],
+      ran (Is Held ∷ Is Held ∷ Is Held ∷ Is Held ∷ TurnedDown NotClosed ∷ Made ∷ TurnedDown AlreadyClosed ∷ Made ∷ []) ((0, Refused) ∷ (1, Done) ∷ (2, Refused) ∷ (3, Done) ∷ []) (replicate 4 false),
+    )
     -- an event that is not delayable goes by its own order before anything is settled: 1, 0, where A has 0, 1
-    ∷ (1 ∷ 0 ∷ 6 ∷ 1 ∷ 0 ∷ 0 ∷ 3 ∷ 0 ∷ 1 ∷ 5 ∷ [], Submit 0 ∷ Submit 1 ∷ [], ran (Is Held ∷ Is Done ∷ []) ((1, Done) ∷ (0, Done) ∷ []) (false ∷ []))
+    ∷ (
+      1 ∷ 0 ∷ 6 ∷ 1 ∷ 0 ∷ 0 ∷ 3 ∷ 0 ∷ 1 ∷ 5 ∷ [],
+      Submit 0 ∷ Submit 1 ∷ [],
+      ran (Is Held ∷ Is Done ∷ []) ((1, Done) ∷ (0, Done) ∷ []) (false ∷ []),
+    )
     -- a forced b that is delayable waits too (need 0, 1, order 2, 1): 0 is done alone. Its recorded rule owes no
     -- more: 3 is done
-    ∷ (1 ∷ 0 ∷ 0 ∷ 1 ∷ 0 ∷ 7 ∷ 1 ∷ 0 ∷ 6 ∷ 1 ∷ 0 ∷ 6 ∷ 3 ∷ 0 ∷ 1 ∷ 2 ∷ 2 ∷ 1 ∷ 5 ∷ [], Submit 0 ∷ Submit 3 ∷ [], ran (Is Done ∷ Is Done ∷ []) ((0, Done) ∷ (3, Done) ∷ []) (true ∷ false ∷ []))
+    ∷ (
+      1 ∷ 0 ∷ 0 ∷ 1 ∷ 0 ∷ 7 ∷ 1 ∷ 0 ∷ 6 ∷ 1 ∷ 0 ∷ 6 ∷ 3 ∷ 0 ∷ 1 ∷ 2 ∷ 2 ∷ 1 ∷ 5 ∷ [],
+      Submit 0 ∷ Submit 3 ∷ [],
+      ran (Is Done ∷ Is Done ∷ []) ((0, Done) ∷ (3, Done) ∷ []) (true ∷ false ∷ []),
+    )
     -- the same: recorded still, though 1 is done at last and the rule holds again
-    ∷ (1 ∷ 0 ∷ 0 ∷ 1 ∷ 0 ∷ 7 ∷ 1 ∷ 0 ∷ 6 ∷ 1 ∷ 0 ∷ 6 ∷ 3 ∷ 0 ∷ 1 ∷ 2 ∷ 2 ∷ 1 ∷ 5 ∷ [], Submit 0 ∷ Submit 2 ∷ Submit 1 ∷ [], ran (Is Done ∷ Is Done ∷ Is Done ∷ []) ((0, Done) ∷ (2, Done) ∷ (1, Done) ∷ []) (true ∷ false ∷ []))
+    ∷ (
+      1 ∷ 0 ∷ 0 ∷ 1 ∷ 0 ∷ 7 ∷ 1 ∷ 0 ∷ 6 ∷ 1 ∷ 0 ∷ 6 ∷ 3 ∷ 0 ∷ 1 ∷ 2 ∷ 2 ∷ 1 ∷ 5 ∷ [],
+      Submit 0 ∷ Submit 2 ∷ Submit 1 ∷ [],
+      ran (Is Done ∷ Is Done ∷ Is Done ∷ []) ((0, Done) ∷ (2, Done) ∷ (1, Done) ∷ []) (true ∷ false ∷ []),
+    )
     -- a b that is not delayable never waits (order 0, 1), also where it is forced (need 2, 1)
-    ∷ (1 ∷ 0 ∷ 6 ∷ 1 ∷ 0 ∷ 3 ∷ 1 ∷ 0 ∷ 6 ∷ 2 ∷ 0 ∷ 1 ∷ 3 ∷ 2 ∷ 1 ∷ 5 ∷ [], Submit 2 ∷ Submit 0 ∷ [], ran (Is Done ∷ Is Refused ∷ []) ((1, Done) ∷ (2, Done) ∷ (0, Refused) ∷ []) (false ∷ false ∷ []))
+    ∷ (
+      1 ∷ 0 ∷ 6 ∷ 1 ∷ 0 ∷ 3 ∷ 1 ∷ 0 ∷ 6 ∷ 2 ∷ 0 ∷ 1 ∷ 3 ∷ 2 ∷ 1 ∷ 5 ∷ [],
+      Submit 2 ∷ Submit 0 ∷ [],
+      ran (Is Done ∷ Is Refused ∷ []) ((1, Done) ∷ (2, Done) ∷ (0, Refused) ∷ []) (false ∷ false ∷ []),
+    )
     -- a conditional of which a alone is rejectable: a is refused and not done alone, b is done alone
-    ∷ (1 ∷ 0 ∷ 2 ∷ 1 ∷ 0 ∷ 0 ∷ 1 ∷ 1 ∷ 6 ∷ 4 ∷ 0 ∷ 1 ∷ 2 ∷ 5 ∷ [], Submit 1 ∷ Close 1 ∷ Submit 0 ∷ [], ran (Is Done ∷ Made ∷ Is Refused ∷ []) ((1, Done) ∷ (2, Lapsed) ∷ (0, Refused) ∷ []) (false ∷ []))
-    ∷ (1 ∷ 0 ∷ 2 ∷ 1 ∷ 0 ∷ 0 ∷ 1 ∷ 1 ∷ 6 ∷ 4 ∷ 0 ∷ 1 ∷ 2 ∷ 5 ∷ [], Submit 0 ∷ Close 1 ∷ Submit 1 ∷ [], ran (Is Done ∷ Made ∷ Is Done ∷ []) ((0, Done) ∷ (2, Lapsed) ∷ (1, Done) ∷ []) (true ∷ []))
+    ∷ (
+      1 ∷ 0 ∷ 2 ∷ 1 ∷ 0 ∷ 0 ∷ 1 ∷ 1 ∷ 6 ∷ 4 ∷ 0 ∷ 1 ∷ 2 ∷ 5 ∷ [],
+      Submit 1 ∷ Close 1 ∷ Submit 0 ∷ [],
+      ran (Is Done ∷ Made ∷ Is Refused ∷ []) ((1, Done) ∷ (2, Lapsed) ∷ (0, Refused) ∷ []) (false ∷ []),
+    )
+    ∷ (
+      1 ∷ 0 ∷ 2 ∷ 1 ∷ 0 ∷ 0 ∷ 1 ∷ 1 ∷ 6 ∷ 4 ∷ 0 ∷ 1 ∷ 2 ∷ 5 ∷ [],
+      Submit 0 ∷ Close 1 ∷ Submit 1 ∷ [],
+      ran (Is Done ∷ Made ∷ Is Done ∷ []) ((0, Done) ∷ (2, Lapsed) ∷ (1, Done) ∷ []) (true ∷ []),
+    )
     -- settling after a refused hand-in: 1 waited for 0
-    ∷ (1 ∷ 0 ∷ 2 ∷ 1 ∷ 0 ∷ 6 ∷ 1 ∷ 0 ∷ 6 ∷ 3 ∷ 0 ∷ 2 ∷ 2 ∷ 0 ∷ 1 ∷ 5 ∷ [], Submit 1 ∷ Submit 0 ∷ [], ran (Is Held ∷ Is Refused ∷ []) ((0, Refused) ∷ (1, Done) ∷ []) (false ∷ false ∷ []))
+    ∷ (
+      1 ∷ 0 ∷ 2 ∷ 1 ∷ 0 ∷ 6 ∷ 1 ∷ 0 ∷ 6 ∷ 3 ∷ 0 ∷ 2 ∷ 2 ∷ 0 ∷ 1 ∷ 5 ∷ [],
+      Submit 1 ∷ Submit 0 ∷ [],
+      ran (Is Held ∷ Is Refused ∷ []) ((0, Refused) ∷ (1, Done) ∷ []) (false ∷ false ∷ []),
+    )
     -- a rule that neither forbade nor owed is not recorded
-    ∷ (1 ∷ 0 ∷ 0 ∷ 1 ∷ 1 ∷ 1 ∷ 1 ∷ 0 ∷ 6 ∷ 3 ∷ 0 ∷ 1 ∷ 4 ∷ 0 ∷ 2 ∷ 1 ∷ 5 ∷ [], Close 1 ∷ Submit 0 ∷ [], ran (Made ∷ Is Done ∷ []) ((1, Lapsed) ∷ (0, Done) ∷ []) (true ∷ false ∷ []))
+    ∷ (
+      1 ∷ 0 ∷ 0 ∷ 1 ∷ 1 ∷ 1 ∷ 1 ∷ 0 ∷ 6 ∷ 3 ∷ 0 ∷ 1 ∷ 4 ∷ 0 ∷ 2 ∷ 1 ∷ 5 ∷ [],
+      Close 1 ∷ Submit 0 ∷ [],
+      ran (Made ∷ Is Done ∷ []) ((1, Lapsed) ∷ (0, Done) ∷ []) (true ∷ false ∷ []),
+    )
     -- a need's b that is held is still owed: 1 waits for 2 (order 2, 1), so 0 (need 0, 1) is held, and goes by the
     -- order 0, 2, 1
-    ∷ (1 ∷ 0 ∷ 6 ∷ 1 ∷ 0 ∷ 6 ∷ 1 ∷ 0 ∷ 6 ∷ 2 ∷ 2 ∷ 1 ∷ 3 ∷ 0 ∷ 1 ∷ 5 ∷ [], Submit 1 ∷ Submit 0 ∷ Submit 2 ∷ [], ran (Is Held ∷ Is Held ∷ Is Done ∷ []) ((0, Done) ∷ (2, Done) ∷ (1, Done) ∷ []) (false ∷ false ∷ []))
+    ∷ (
+      1 ∷ 0 ∷ 6 ∷ 1 ∷ 0 ∷ 6 ∷ 1 ∷ 0 ∷ 6 ∷ 2 ∷ 2 ∷ 1 ∷ 3 ∷ 0 ∷ 1 ∷ 5 ∷ [],
+      Submit 1 ∷ Submit 0 ∷ Submit 2 ∷ [],
+      ran (Is Held ∷ Is Held ∷ Is Done ∷ []) ((0, Done) ∷ (2, Done) ∷ (1, Done) ∷ []) (false ∷ false ∷ []),
+    )
     -- so is a conditional's c: 2 waits for 3 (order 3, 2), so 1 (conditional 0, 1, 2) is held
-    ∷ (1 ∷ 0 ∷ 6 ∷ 1 ∷ 0 ∷ 6 ∷ 1 ∷ 0 ∷ 6 ∷ 1 ∷ 0 ∷ 6 ∷ 2 ∷ 3 ∷ 2 ∷ 4 ∷ 0 ∷ 1 ∷ 2 ∷ 5 ∷ [], Submit 2 ∷ Submit 0 ∷ Submit 1 ∷ Submit 3 ∷ [], ran (Is Held ∷ Is Done ∷ Is Held ∷ Is Done ∷ []) ((0, Done) ∷ (1, Done) ∷ (3, Done) ∷ (2, Done) ∷ []) (false ∷ false ∷ []))
+    ∷ (
+      1 ∷ 0 ∷ 6 ∷ 1 ∷ 0 ∷ 6 ∷ 1 ∷ 0 ∷ 6 ∷ 1 ∷ 0 ∷ 6 ∷ 2 ∷ 3 ∷ 2 ∷ 4 ∷ 0 ∷ 1 ∷ 2 ∷ 5 ∷ [],
+      Submit 2 ∷ Submit 0 ∷ Submit 1 ∷ Submit 3 ∷ [],
+      ran (Is Held ∷ Is Done ∷ Is Held ∷ Is Done ∷ []) ((0, Done) ∷ (1, Done) ∷ (3, Done) ∷ (2, Done) ∷ []) (false ∷ false ∷ []),
+    )
     -- an order waits for an a that is held: 0 (need 0, 2) is held, so 1 (order 0, 1) is held too
-    ∷ (1 ∷ 0 ∷ 6 ∷ 1 ∷ 0 ∷ 6 ∷ 1 ∷ 0 ∷ 6 ∷ 2 ∷ 0 ∷ 1 ∷ 3 ∷ 0 ∷ 2 ∷ 5 ∷ [], Submit 0 ∷ Submit 1 ∷ Submit 2 ∷ [], ran (Is Held ∷ Is Held ∷ Is Done ∷ []) ((0, Done) ∷ (2, Done) ∷ (1, Done) ∷ []) (false ∷ false ∷ []))
+    ∷ (
+      1 ∷ 0 ∷ 6 ∷ 1 ∷ 0 ∷ 6 ∷ 1 ∷ 0 ∷ 6 ∷ 2 ∷ 0 ∷ 1 ∷ 3 ∷ 0 ∷ 2 ∷ 5 ∷ [],
+      Submit 0 ∷ Submit 1 ∷ Submit 2 ∷ [],
+      ran (Is Held ∷ Is Held ∷ Is Done ∷ []) ((0, Done) ∷ (2, Done) ∷ (1, Done) ∷ []) (false ∷ false ∷ []),
+    )
     -- two held triggers with c lapsed: neither is barred until one is done
-    ∷ (6 ∷ 0 ∷ 1 ∷ 1 ∷ 6 ∷ 2 ∷ 1 ∷ 0 ∷ 2 ∷ 1 ∷ 2 ∷ 4 ∷ 0 ∷ 2 ∷ 4 ∷ 5 ∷ [], Submit 0 ∷ Submit 2 ∷ Close 1 ∷ Submit 1 ∷ [], ran (Is Held ∷ Is Held ∷ Made ∷ Is Done ∷ []) ((4, Lapsed) ∷ (1, Done) ∷ (0, Done) ∷ (2, Refused) ∷ []) (replicate 3 false))
+    ∷ (
+      6 ∷ 0 ∷ 1 ∷ 1 ∷ 6 ∷ 2 ∷ 1 ∷ 0 ∷ 2 ∷ 1 ∷ 2 ∷ 4 ∷ 0 ∷ 2 ∷ 4 ∷ 5 ∷ [],
+      Submit 0 ∷ Submit 2 ∷ Close 1 ∷ Submit 1 ∷ [],
+      ran (Is Held ∷ Is Held ∷ Made ∷ Is Done ∷ []) ((4, Lapsed) ∷ (1, Done) ∷ (0, Done) ∷ (2, Refused) ∷ []) (replicate 3 false),
+    )
     -- an open forcible event is forced so that the one that waits for it can be done
     ∷ (1 ∷ 0 ∷ 1 ∷ 1 ∷ 1 ∷ 6 ∷ 2 ∷ 0 ∷ 1 ∷ 5 ∷ [], Submit 1 ∷ [], ran (Is Done ∷ []) ((0, Done) ∷ (1, Done) ∷ []) (false ∷ []))
     -- an order of six is the longest: a chain of six is done by force, and of a chain of seven nothing is done
-    ∷ (chain 5, Submit 0 ∷ [], ran (Is Done ∷ []) ((0, Done) ∷ (1, Done) ∷ (2, Done) ∷ (3, Done) ∷ (4, Done) ∷ (5, Done) ∷ []) (replicate 6 false))
+    ∷ (
+      chain 5,
+      Submit 0 ∷ [],
+      ran (Is Done ∷ []) ((0, Done) ∷ (1, Done) ∷ (2, Done) ∷ (3, Done) ∷ (4, Done) ∷ (5, Done) ∷ []) (replicate 6 false),
+    )
     ∷ (chain 6, Submit 0 ∷ [], ran (Is Held ∷ []) [] (replicate 7 false))
     -- handed in again: answered with its fate, in the same state
-    ∷ (sheetA, Submit 0 ∷ Submit 0 ∷ Submit 1 ∷ Submit 0 ∷ [], ran (Is Held ∷ Is Held ∷ Is Done ∷ Is Done ∷ []) ((0, Done) ∷ (1, Done) ∷ []) (false ∷ false ∷ []))
-    ∷ (sheetG, Submit 1 ∷ Submit 0 ∷ Submit 0 ∷ [], ran (Is Done ∷ Is Refused ∷ Is Refused ∷ []) ((1, Done) ∷ (0, Refused) ∷ []) (false ∷ []))
+    ∷ (
+      sheetA,
+      Submit 0 ∷ Submit 0 ∷ Submit 1 ∷ Submit 0 ∷ [],
+      ran (Is Held ∷ Is Held ∷ Is Done ∷ Is Done ∷ []) ((0, Done) ∷ (1, Done) ∷ []) (false ∷ false ∷ []),
+    )
+    ∷ (
+      sheetG,
+      Submit 1 ∷ Submit 0 ∷ Submit 0 ∷ [],
+      ran (Is Done ∷ Is Refused ∷ Is Refused ∷ []) ((1, Done) ∷ (0, Refused) ∷ []) (false ∷ []),
+    )
     -- numbers 9, 10 and 11, and an event of a closed step
-    ∷ (sheetA, Close 8 ∷ Close 2 ∷ Close 0 ∷ Close 0 ∷ Finish ∷ Submit 2 ∷ Submit 0 ∷ [], ran (TurnedDown Unknown ∷ TurnedDown Unknown ∷ Made ∷ TurnedDown AlreadyClosed ∷ TurnedDown NotClosed ∷ TurnedDown Unknown ∷ Is Lapsed ∷ []) ((0, Lapsed) ∷ []) (false ∷ false ∷ []))
+    ∷ (
+      sheetA,
+      Close 8 ∷ Close 2 ∷ Close 0 ∷ Close 0 ∷ Finish ∷ Submit 2 ∷ Submit 0 ∷ [],
+      ran (TurnedDown Unknown ∷ TurnedDown Unknown ∷ Made ∷ TurnedDown AlreadyClosed ∷ TurnedDown NotClosed ∷ TurnedDown Unknown ∷ Is Lapsed ∷ []) ((0, Lapsed) ∷ []) (false ∷ false ∷ []),
+    )
     -- a plan without events winds up, and again
     ∷ (5 ∷ [], Submit 0 ∷ Close 0 ∷ Finish ∷ Finish ∷ [], ran (TurnedDown Unknown ∷ TurnedDown Unknown ∷ Made ∷ Made ∷ []) [] [])
     ∷ []
@@ -228,7 +332,7 @@ brought =
     ∷ (hold (firstOn sheetD) 0, Finish ∷ [], TurnedDown Incoherent ∷ [])
     ∷ []
 
--- case A's report, exactly document 01's text
+-- case A's report, byte by byte (14.2)
 abbrev pub reportA : List ℕ
 reportA =
     (101 ∷ 118 ∷ 101 ∷ 110 ∷ 116 ∷ 115 ∷ 32 ∷ 50 ∷ 32 ∷ 114 ∷ 117 ∷ 108 ∷ 101 ∷ 115 ∷ 32 ∷ 50 ∷ 10 ∷ [])  -- events 2 rules 2
@@ -289,7 +393,13 @@ pub marked :
     (map (λ (c : Case). given (c .0) (c .1)) cases ≡ map (λ (c : Case). c .2) cases)
     × (map (λ (c : Brought). answersOf (c .0) (c .1)) brought ≡ map (λ (c : Brought). c .2) brought)
     × (map (λ (c : Report). report (runOf (c .0) (c .1))) reports ≡ map (λ (c : Report). c .2) reports)
-unfolding given answersOf tabulate anyBelow allBelow firstOf lowest hold settleAs shut breakRule named enforceable soundEvent soundRule bars makesWait forbids owes barred forbidden owing fatesIn anyDone doneIn doneInTurn holds ready mayDo doAll orderOf chosen toRefuse toDo settleOnce settleUpTo settle strains recordBroken doAlone decide submit lapse closeStep refuseHeld finish firstFault declaredOnly sameFates listedAs coherentEvent coherentRule coherent hasEvent callFault accept call ruleOf addEvent addRule addEvents declare recordFault ending readFrom readPlan sheetPlan readSheet after countBelow firstCall decodeUpTo decode turnedDown runOn runOf digits decimal historyLines report
+unfolding given answersOf tabulate anyBelow allBelow firstOf lowest hold settleAs shut breakRule named enforceable
+    soundEvent soundRule bars makesWait forbids owes barred forbidden owing fatesIn anyDone doneIn doneInTurn holds
+    ready mayDo doAll orderOf chosen toRefuse toDo settleOnce settleUpTo settle strains recordBroken doAlone decide
+    submit lapse closeStep refuseHeld finish firstFault declaredOnly sameFates listedAs coherentEvent coherentRule
+    coherent hasEvent callFault accept call ruleOf addEvent addRule addEvents declare recordFault ending readFrom
+    readPlan sheetPlan readSheet after countBelow firstCall decodeUpTo decode turnedDown runOn runOf digits decimal
+    historyLines report
 marked = (refl, refl, refl)
 
 -- 0, 7, 10, 65536

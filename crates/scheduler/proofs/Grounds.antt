@@ -12,7 +12,8 @@ use Rattle.plan.specs.Plans.{eventCount, ruleCount, stepOf, rejectable, delayab
 use Rattle.scheduler.specs.State.{fateOf, hold, settleAs, shut, Sized}
 use Rattle.plan.specs.Fates.{isOpen}
 use Rattle.scheduler.specs.Orders.{First, chosen, doAll}
-use Rattle.scheduler.specs.Calls.{refuses, does, Turns, stay, turn, settleOnce, settle, strains, breakIf, recordBroken, doAlone, decide, submit, lapse, closeStep, refuseHeld, finish}
+use Rattle.scheduler.specs.Rules.{strains}
+use Rattle.scheduler.specs.Calls.{refuses, does, Turns, stay, turn, settleOnce, settle, breakIf, recordBroken, doAlone, decide, submit, lapse, closeStep, refuseHeld, finish}
 use Rattle.scheduler.specs.Answers.{callRows, callFault, accept, call}
 use Rattle.scheduler.specs.Grounds.{by-bar, by-submission, by-finish, Trail, end, held, ordered, alone, refused, shuts, lapsed, Grounded}
 use Rattle.plan.proofs.Tests.{and-left, and-right, either}

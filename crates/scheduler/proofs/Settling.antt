@@ -15,7 +15,7 @@ use Rattle.scheduler.specs.State.{fateOf, settleAs, Sized}
 use Rattle.plan.specs.Fates.{isHeld, isSettled}
 use Rattle.scheduler.specs.Rules.{barred}
 use Rattle.scheduler.specs.Orders.{mayDo, doOne, Runs, Viable, First, chosen, doAll}
-use Rattle.scheduler.specs.Calls.{Lowest, IsHeld, HeldBarred, HeldViable, Turn, refuses, does, Turns, stay, turn, Settles, toRefuse, toDo, settleOnce, settleUpTo, settle, refuseHeld, finish, Refusing, nothing-held, refuse-next, Finishes}
+use Rattle.scheduler.specs.Calls.{Lowest, IsHeld, HeldBarred, HeldViable, Turn, refuses, does, AtRest, Turns, stay, turn, Settles, toRefuse, toDo, settleOnce, settleUpTo, settle, refuseHeld, finish, Refusing, nothing-held, refuse-next, Finishes}
 use Rattle.plan.proofs.Tests.{either, and-left, and-right, and-both, clash, first-none, first-some, when-none, when-some, some-none, count-le, count-more}
 use Rattle.plan.proofs.Fates.{held-is}
 use Rattle.scheduler.proofs.Laws.{sized-one, fate-past, plan-settle, fate-settle-same, fate-settle-other, sized-settle}
@@ -137,10 +137,10 @@ turn-once s t z (does e o nb l f) =
         let same : g .0 ≡ e = lowest-one s (HeldViable s) (g .0) e (g .1) l in
         q ∙ sym (first-chosen s e z p (subst (λ d. First s d p) same (g .2))) ∙ first-chosen s e z o f
 
-pub once-none : (s : State) → Sized s → settleOnce s ≡ none → (u : State) → Turn s u → ⊥
+pub once-none : (s : State) → Sized s → settleOnce s ≡ none → AtRest s
 once-none s z h u t = some-none (sym (turn-once s u z t) ∙ h)
 
-pub none-once : (s : State) → Sized s → ((u : State) → Turn s u → ⊥) → settleOnce s ≡ none
+pub none-once : (s : State) → Sized s → AtRest s → settleOnce s ≡ none
 none-once s z h = go (settleOnce s) refl
   where
     go : (o : Option State) → settleOnce s ≡ o → settleOnce s ≡ none

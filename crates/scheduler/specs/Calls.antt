@@ -1,11 +1,10 @@
 -- The calls: settling, hand in, close a step, wind up.
-use Rattle.scheduler.specs.Prelude.{ℕ, zero, suc, _<_, Bool, true, false, _&&_, _||_, List, Option, none, some, Option·map, _≡_, eqb, Held, Done, Refused, Lapsed, State}
+use Rattle.scheduler.specs.Prelude.{ℕ, zero, suc, _<_, Bool, true, false, _&&_, List, Option, none, some, Option·map, _≡_, eqb, Held, Done, Refused, Lapsed, State}
 use Rattle.plan.specs.Base.{firstOf, when, lowest}
 use Rattle.plan.specs.Fates.{isOpen, isHeld}
-use Rattle.plan.specs.Plans.{eventCount, ruleCount, stepOf, ruleAt, rejectable, delayable}
-use Rattle.plan.specs.Rules.{forbids, owes}
+use Rattle.plan.specs.Plans.{eventCount, ruleCount, stepOf, rejectable, delayable}
 use Rattle.scheduler.specs.State.{fateOf, hold, settleAs, shut, breakRule}
-use Rattle.scheduler.specs.Rules.{stands, barred}
+use Rattle.scheduler.specs.Rules.{barred, strains}
 use Rattle.scheduler.specs.Orders.{Viable, First, chosen, doAll}
 
 -- e is the lowest-numbered declared event of which P holds (1.4)
@@ -33,6 +32,10 @@ pub data Turn (s : State) : State → Type 0 where
       → First s e o
       → Turn s (doAll s o)
 
+-- no turn is left to make (8.2)
+abbrev pub AtRest : State → Type 0
+AtRest s = (u : State) → Turn s u → ⊥
+
 -- turns one after another (8.2)
 pub data Turns : State → State → Type 0 where
   stay : {s : State} → Turns s s
@@ -41,7 +44,7 @@ pub data Turns : State → State → Type 0 where
 -- turns until there is none left to make (8.2)
 pub record Settles (s t : State) : Type 0 where
   pub turns : Turns s t
-  pub rests : (u : State) → Turn t u → ⊥
+  pub rests : AtRest t
 
 -- Settling as a function, proved to be that: the event to refuse, the order to do, one turn, and turns up to a number
 -- (8.1)
@@ -64,13 +67,6 @@ settleUpTo (suc n) s = elim (settleOnce s) [ none ↦ s | some t ↦ settleUpTo 
 -- each turn settles an event, and there are at most 16 (8.2, 8.3)
 unfoldable pub settle : State → State
 settle s = settleUpTo 16 s
-
--- rule i, not recorded as broken, forbids doing e in s or owes right after it (9.5)
-unfoldable pub strains : State → ℕ → ℕ → Bool
-strains s e i =
-    stands s i
-    && (forbids (s .plan) (fateOf s) (ruleAt (s .plan) i) e
-    || owes (s .plan) (fateOf (settleAs Done s e)) (ruleAt (s .plan) i))
 
 abbrev pub breakIf : Bool → State → ℕ → State
 breakIf true s i = breakRule s i

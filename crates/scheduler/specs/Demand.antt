@@ -1,12 +1,12 @@
 -- Demand 3, of any scheduler. Its words are read off the plan, the calls and the history after each call: they cite
 -- the rules and `Viable`, and neither the search nor the calls of Orders.antt and Calls.antt.
-use Rattle.scheduler.specs.Prelude.{ℕ, _≤_, _<_, Bool, true, false, not, _&&_, _||_, List, [], _∷_, _++_, _≡_, eqb, ltb, length, getD, drop, Fate, Open, Held, Done, Rule, Order, Need, Conditional, Plan, Entry, State, Call, Submit, Close, Finish}
+use Rattle.scheduler.specs.Prelude.{ℕ, _≤_, _<_, Bool, true, false, not, _&&_, _||_, List, [], _∷_, _++_, _≡_, eqb, ltb, length, getD, drop, Fate, Open, Held, Rule, Order, Need, Conditional, Plan, Entry, State, Call, Submit, Close, Finish}
 use Rattle.plan.specs.Base.{allBelow, thoseBelow, among, tabulate}
 use Rattle.plan.specs.Fates.{isOpen, isDone, isSettled}
 use Rattle.plan.specs.Plans.{eventCount, ruleCount, ruleAt, rejectable, hasEvent}
-use Rattle.plan.specs.Rules.{forbids, owes}
 use Rattle.plan.specs.Histories.{blankEntry, fatesIn, holds}
-use Rattle.scheduler.specs.State.{fateOf, brokenAt, lines, hold, settleAs}
+use Rattle.scheduler.specs.State.{lines, hold}
+use Rattle.scheduler.specs.Rules.{strains}
 use Rattle.scheduler.specs.Orders.{Viable, hasViable}
 use Rattle.scheduler.specs.Coherent.{coherent}
 use Rattle.scheduler.specs.Sheet.{readSheet, admitted}
@@ -99,16 +99,10 @@ doneAlone p o e h =
     && startsDone (drop (length (o .history)) h) e
     && not (hasViable (hold (stateOf p o) e) e)
 
--- rule i, not recorded so far, was against doing e or owed right after it (11.8)
-unfoldable pub against : Plan → State → ℕ → ℕ → Bool
-against p s e i =
-    not (brokenAt s i)
-    && (forbids p (fateOf s) (ruleAt p i) e || owes p (fateOf (settleAs Done s e)) (ruleAt p i))
-
--- the rules that a hand-in which did its event alone records as broken (11.8)
+-- the rules that a hand-in which did its event alone records as broken: those that this strains (11.8)
 unfoldable pub newlyRecorded : Plan → Observed → ℕ → List Entry → List ℕ
 newlyRecorded p o e h = elim (doneAlone p o e h) [
-  | true ↦ thoseBelow (ruleCount p) (against p (hold (stateOf p o) e) e)
+  | true ↦ thoseBelow (ruleCount p) (strains (hold (stateOf p o) e) e)
   | false ↦ []
 ]
 

@@ -1,7 +1,7 @@
 -- Demand 2's doing, of any scheduler: what can be done is done within the call, and nothing that was done is undone.
 use Rattle.scheduler.specs.Prelude.{ℕ, none, some, _≡_, Open, State, Call, Submit, CallFault}
 use Rattle.scheduler.specs.State.{fateOf, lines, Sized}
-use Rattle.scheduler.specs.Calls.{Turn}
+use Rattle.scheduler.specs.Calls.{AtRest}
 use Rattle.scheduler.specs.Answers.{callFault}
 use Rattle.scheduler.specs.Lists.{Scheduler}
 use Rattle.scheduler.specs.Demand.{Extends}
@@ -10,10 +10,6 @@ use Rattle.scheduler.specs.Demand.{Extends}
 pub record Acts (s : State) (c : Call) : Type 0 where
   pub taken : callFault s c ≡ none
   pub fresh : (e : ℕ) → c ≡ Submit e → fateOf s e ≡ Open
-
--- no turn of settling is left to make (12.5)
-abbrev pub AtRest : State → Type 0
-AtRest s = (u : State) → Turn s u → ⊥
 
 pub record Does (step : Scheduler) (s : State) (c : Call) : Type 0 where
   -- after a call that acts, settling has come to its end

@@ -4,7 +4,7 @@ use Rattle.plan.specs.Plans.{stepOf, rejectable, delayable}
 use Rattle.scheduler.specs.State.{fateOf, hold, settleAs, shut, Sized}
 use Rattle.scheduler.specs.Rules.{barred}
 use Rattle.scheduler.specs.Orders.{Viable, First, doAll}
-use Rattle.scheduler.specs.Calls.{Lowest, IsHeld, Turn, doAlone}
+use Rattle.scheduler.specs.Calls.{Lowest, IsHeld, AtRest, doAlone}
 use Rattle.scheduler.specs.Lists.{Scheduler}
 
 abbrev pub NoViable : State → ℕ → Type 0
@@ -20,7 +20,7 @@ pub data Ground (c : Call) (s : State) (e : ℕ) : Type 0 where
       → rejectable (s .plan) e ≡ true
       → NoViable s e
       → Ground c s e
-  by-finish : c ≡ Finish → Lowest s (IsHeld s) e → ((u : State) → Turn s u → ⊥) → Ground c s e
+  by-finish : c ≡ Finish → Lowest s (IsHeld s) e → AtRest s → Ground c s e
 
 -- what call c does, write by write (12.1, 12.2)
 pub data Trail (c : Call) : State → State → Type 0 where

@@ -1,4 +1,4 @@
--- What has to be believed of a state and its calls: the definitions, in document 01's order; `Internal` is for
+-- What has to be believed of a state and its calls: the definitions, in the specification's order; `Internal` is for
 -- private functions.
 pub mod Prelude
 pub mod State

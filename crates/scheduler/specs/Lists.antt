@@ -8,7 +8,7 @@ use Rattle.scheduler.specs.Answers.{call}
 abbrev pub Scheduler : Type 0
 Scheduler = State → Call → State
 
--- the scheduler of document 01 (9.1)
+-- the scheduler of the specification (9.1)
 abbrev pub scheduler : Scheduler
 scheduler s c = call s c .state
 

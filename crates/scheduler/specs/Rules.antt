@@ -1,9 +1,9 @@
 -- What the rules of a state's plan say of it.
-use Rattle.scheduler.specs.Prelude.{ℕ, Bool, not, _&&_, State}
+use Rattle.scheduler.specs.Prelude.{ℕ, Bool, not, _&&_, _||_, Done, State}
 use Rattle.plan.specs.Base.{anyBelow}
 use Rattle.plan.specs.Plans.{ruleCount, ruleAt}
 use Rattle.plan.specs.Rules.{bars, forbids, owes}
-use Rattle.scheduler.specs.State.{fateOf, brokenAt}
+use Rattle.scheduler.specs.State.{fateOf, brokenAt, settleAs}
 
 -- the rule is not recorded as broken; one that is says nothing any more (6.1)
 abbrev pub stands : State → ℕ → Bool
@@ -22,3 +22,10 @@ forbidden s e =
 unfoldable pub owing : State → Bool
 owing s =
     anyBelow (ruleCount (s .plan)) (λ i. stands s i && owes (s .plan) (fateOf s) (ruleAt (s .plan) i))
+
+-- rule i, if it stands, is against doing e in s, or owes right after it (9.5, 11.8)
+unfoldable pub strains : State → ℕ → ℕ → Bool
+strains s e i =
+    stands s i
+    && (forbids (s .plan) (fateOf s) (ruleAt (s .plan) i) e
+    || owes (s .plan) (fateOf (settleAs Done s e)) (ruleAt (s .plan) i))

@@ -6,7 +6,7 @@ use plan::plan::Plan;
 ghost use mathlib.Core.Path.{_≡_};
 ghost use Rattle.scheduler.specs.State.{hold, settleAs, shut, breakRule};
 
-// A plan and what has happened (document 01: a funeral's state).
+// A plan and what has happened (5.4).
 pub struct State {
     pub plan: Plan,
     pub standings: [Standing; 16],

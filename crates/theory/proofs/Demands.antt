@@ -1,4 +1,4 @@
--- Demand 3, of the scheduler of document 01: an invariant of any list on an admitted sheet, and what follows from it.
+-- Demand 3, of the specification's scheduler: an invariant of any list on an admitted sheet, and what follows from it.
 use Prim.Native.Nat.{ℕ, zero, suc, _≤_, _<_}
 use native.Mathlib.Omega.{arith}
 use native.Mathlib.Decide.{ℕ-discrete, decLt}
@@ -18,13 +18,14 @@ use Rattle.plan.specs.Fates.{blankStanding, isOpen, isHeld, isDone, isSettled}
 use Rattle.plan.specs.Histories.{blankEntry, fateIf, fatesIn, doneInTurn, holds, declaredOnly}
 use Rattle.plan.specs.Rules.{owes}
 use Rattle.scheduler.specs.Orders.{Viable, hasViable}
-use Rattle.scheduler.specs.Calls.{strains, doAlone, submit, closeStep, finish}
+use Rattle.scheduler.specs.Rules.{strains}
+use Rattle.scheduler.specs.Calls.{doAlone, submit, closeStep, finish}
 use Rattle.plan.specs.Faults.{firstFault, isTurnedDown}
 use Rattle.scheduler.specs.Coherent.{coherent}
 use Rattle.scheduler.specs.Answers.{unclosedAt, callFault, accept, call}
 use Rattle.scheduler.specs.Sheet.{readSheet, admitted}
 use Rattle.scheduler.specs.Lists.{after, scheduler}
-use Rattle.scheduler.specs.Demand.{seen, Observed, nothingYet, submits, closes, anyCall, wasSubmitted, wasClosed, wasFinished, waitsAs, stateOf, accepted, startsDone, doneAlone, against, newlyRecorded, shows, onlyHistory, observe, observeAll, broken, unbreakable, Holds, Extends, Grows, Keeps}
+use Rattle.scheduler.specs.Demand.{seen, Observed, nothingYet, submits, closes, anyCall, wasSubmitted, wasClosed, wasFinished, waitsAs, stateOf, accepted, startsDone, doneAlone, newlyRecorded, shows, onlyHistory, observe, observeAll, broken, unbreakable, Holds, Extends, Grows, Keeps}
 use Rattle.plan.proofs.Tests.{clash, either, or-either, count-zero, or-both, and-left, and-right, any-none, any-some, any-found, all-at}
 use Rattle.plan.proofs.Fates.{open-is}
 use Rattle.scheduler.proofs.Laws.{fate-hold-same, fate-hold-other, plan-hold, closed-hold, broken-hold, lines-hold, broken-settle, fate-shut, broken-shut, lines-shut, closed-shut-same, closed-shut-other}
@@ -154,7 +155,7 @@ recorded-no p o e h q = rw (q, newlyRecorded)
 
 recorded-yes : (p : Plan) (o : Observed) (e : ℕ) (h : List Entry)
     → doneAlone p o e h ≡ true
-    → newlyRecorded p o e h ≡ thoseBelow (ruleCount p) (against p (hold (stateOf p o) e) e)
+    → newlyRecorded p o e h ≡ thoseBelow (ruleCount p) (strains (hold (stateOf p o) e) e)
 unfolding newlyRecorded
 recorded-yes p o e h q = rw (q, newlyRecorded)
 
@@ -354,11 +355,8 @@ module _ {p : Plan} {o : Observed} {s : State} (sd : Sound p) (k : ListInvariant
     ]
 
     -- the rules recorded before and now
-    against-strains : (i : ℕ) → against p (hold (stateOf p o) e) e i ≡ strains (hold s e) e i
-    unfolding against strains
-    against-strains i =
-        ap (λ t. against p (hold t e) e i) (sym (shown (k .invariant .listing) (k .beyond) (k .agrees)))
-        ∙ ap (λ v. against v (hold s e) e i) (sym (plan-hold s e ∙ sh .same-plan))
+    strains-shown : (i : ℕ) → strains (hold (stateOf p o) e) e i ≡ strains (hold s e) e i
+    strains-shown i = ap (λ t. strains (hold t e) e i) (sym (shown (k .invariant .listing) (k .beyond) (k .agrees)))
 
     r : Recorded p (ruleCount p) (hold s e) e (settleAs Done (hold s e) e) (doAlone (hold s e) e)
     r = alone-recorded sd (shape-hold s e sh) e
@@ -367,19 +365,19 @@ module _ {p : Plan} {o : Observed} {s : State} (sd : Sound p) (k : ListInvariant
     before i l = broken-settle Done (hold s e) e i ∙ broken-hold s e i ∙ k .agrees .recorded i l
 
     abbrev news : List ℕ
-    news = thoseBelow (ruleCount p) (against p (hold (stateOf p o) e) e)
+    news = thoseBelow (ruleCount p) (strains (hold (stateOf p o) e) e)
 
     alone-broken : (i : ℕ) → i < 16 → brokenAt (doAlone (hold s e) e) i ≡ among i (news ++ o .recorded)
     alone-broken i l = same-test (brokenAt (doAlone (hold s e) e) i) (among i (news ++ o .recorded))
         (λ b. among-append i news (o .recorded) ∙ or-in (among i news) (among i (o .recorded)) (elim (r .only i b) [
           | inl y ↦ inr (sym (before i l) ∙ y)
           | inr y ↦
-              inl (those-in (ruleCount p) (against p (hold (stateOf p o) e) e) i (y .0) (against-strains i ∙ y .1))
+              inl (those-in (ruleCount p) (strains (hold (stateOf p o) e) e) i (y .0) (strains-shown i ∙ y .1))
         ]))
         (λ a. elim (or-either (among i news) (among i (o .recorded)) (sym (among-append i news (o .recorded)) ∙ a)) [
           | inl y ↦
-              let v = those-only (ruleCount p) (against p (hold (stateOf p o) e) e) i y in
-              r .new i (v .0) (sym (against-strains i) ∙ v .1)
+              let v = those-only (ruleCount p) (strains (hold (stateOf p o) e) e) i y in
+              r .new i (v .0) (sym (strains-shown i) ∙ v .1)
           | inr y ↦ r .kept i (before i l ∙ y)
         ])
 

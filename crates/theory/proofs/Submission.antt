@@ -18,7 +18,8 @@ use Rattle.plan.specs.Histories.{blankEntry, fateIf}
 use Rattle.plan.specs.Fates.{isOpen, isHeld, isDone, isGone, isSettled}
 use Rattle.plan.specs.Rules.{enforceable, bars, makesWait, forbids, owes}
 use Rattle.scheduler.specs.Orders.{doOne, Viable, chosen, doAll, hasViable}
-use Rattle.scheduler.specs.Calls.{Turn, refuses, does, Turns, stay, turn, settle, strains, breakIf, recordBroken, doAlone, submit}
+use Rattle.scheduler.specs.Rules.{strains}
+use Rattle.scheduler.specs.Calls.{Turn, refuses, does, Turns, stay, turn, settle, breakIf, recordBroken, doAlone, submit}
 use Rattle.scheduler.specs.Demand.{unbreakable, startsDone}
 use Rattle.scheduler.specs.Grounds.{NoViable}
 use Rattle.plan.proofs.Tests.{clash, either, or-left, or-right, and-left, and-right, and-both, and-not}

@@ -12,7 +12,7 @@ use Rattle.plan.specs.Plans.{emptyPlan, eventCount, ruleCount, rejectable, dela
 use Rattle.scheduler.specs.State.{firstState, emptyState, fateOf, closedAt, hold, settleAs, shut, Sized}
 use Rattle.plan.specs.Fates.{isDone, isOpen}
 use Rattle.plan.specs.Rules.{owes, soundRule, named, enforceable, soundEvent, bars, makesWait, forbids, ready}
-use Rattle.scheduler.specs.Rules.{barred, forbidden, owing}
+use Rattle.scheduler.specs.Rules.{barred, forbidden, owing, strains}
 use Rattle.plan.specs.Histories.{anyDone, doneIn, doneInTurn, holds, fatesIn, declaredOnly, sameFates, listedAs}
 use Rattle.scheduler.specs.Orders.{mayDo, doAll, Viable, orderOf, chosen, someOrder, hasViable}
 use Rattle.scheduler.specs.Calls.{lapse, toRefuse, toDo, settleOnce, settleUpTo, settle, doAlone, submit}
@@ -23,7 +23,7 @@ use Rattle.plan.specs.Records.{ruleOf, addEvent, addRule, declare, recordFault}
 use Rattle.plan.specs.Sheets.{readFrom, readPlan, ending, sheetPlan}
 use Rattle.scheduler.specs.Sheet.{admitted, readSheet}
 use Rattle.scheduler.specs.Lists.{Scheduler, after, scheduler}
-use Rattle.scheduler.specs.Demand.{seen, Observed, nothingYet, anyCall, Holds, observedFate, stateOf, accepted, startsDone, doneAlone, against, newlyRecorded, observe, observeAll, broken, unbreakable, Keeps}
+use Rattle.scheduler.specs.Demand.{seen, Observed, nothingYet, anyCall, Holds, observedFate, stateOf, accepted, startsDone, doneAlone, newlyRecorded, observe, observeAll, broken, unbreakable, Keeps}
 use Rattle.scheduler.specs.Grounds.{Ground, by-bar, by-submission, by-finish, Trail, end, held, ordered, alone, refused, shuts, lapsed, Grounded}
 use Rattle.plan.proofs.Tests.{clash, any-none}
 use Rattle.scheduler.proofs.Laws.{plan-hold, plan-settle, sized-hold, sized-settle, fate-hold-same, fate-settle-either}
@@ -56,7 +56,7 @@ read-two = refl
 shownBy : Scheduler → State → List Call → Observed
 unfolding addEvent addRule after seen anyBelow allBelow thoseBelow among tabulate hold settleAs shut bars
     makesWait forbids barred forbidden owing fatesIn ready mayDo someOrder hasViable hasEvent anyCall
-    observedFate stateOf accepted startsDone doneAlone against newlyRecorded observe observeAll broken
+    observedFate stateOf accepted startsDone doneAlone strains newlyRecorded observe observeAll broken
     unbreakable
 shownBy step s cs = observeAll (s .plan) nothingYet (seen step s cs)
 

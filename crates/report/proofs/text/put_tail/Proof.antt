@@ -28,7 +28,12 @@ put-line-requires-2 c κs =
     room-first
     (line (brokenLead ++ decimal (c .before .before .before .before .before .args .broken)))
     (line (callsLead ++ decimal (c .before .before .before .before .before .args .refused))) refl _
-    (room-then (line (heldLead ++ decimal (c .before .before .before .before .before .args .held))) ((line (brokenLead ++ decimal (c .before .before .before .before .before .args .broken))) ++ (line (callsLead ++ decimal (c .before .before .before .before .before .args .refused)))) (tail-split (c .before .before .before .before .before .args .held) (c .before .before .before .before .before .args .broken) (c .before .before .before .before .before .args .refused)) (c .before .before .before .before .before .args .at) _ (c .before .before .before .before .before .pre) (c .before .before .put-line .ensures .ends))
+    (room-then (line (heldLead ++ decimal (c .before .before .before .before .before .args .held)))
+    ((line (brokenLead ++ decimal (c .before .before .before .before .before .args .broken))) ++
+    (line (callsLead ++ decimal (c .before .before .before .before .before .args .refused))))
+    (tail-split (c .before .before .before .before .before .args .held)
+    (c .before .before .before .before .before .args .broken) (c .before .before .before .before .before .args .refused))
+    (c .before .before .before .before .before .args .at) _ (c .before .before .before .before .before .pre) (c .before .before .put-line .ensures .ends))
 
 slice-aggregate-put-line-3 : tie.Need-slice-aggregate-put-line-3
 slice-aggregate-put-line-3 c = search needs
@@ -40,15 +45,25 @@ put-line-requires-3 c κs =
     (line (callsLead ++ decimal (c .before .before .before .before .before .before .before .before .args .refused)))
     refl
     (c .before .before .before .before .before .put-line .result) _
-    (room-then (line (heldLead ++ decimal (c .before .before .before .before .before .before .before .before .args .held))) ((line (brokenLead ++ decimal (c .before .before .before .before .before .before .before .before .args .broken))) ++ (line (callsLead ++ decimal (c .before .before .before .before .before .before .before .before .args .refused)))) (tail-split (c .before .before .before .before .before .before .before .before .args .held) (c .before .before .before .before .before .before .before .before .args .broken) (c .before .before .before .before .before .before .before .before .args .refused)) (c .before .before .before .before .before .before .before .before .args .at) _ (c .before .before .before .before .before .before .before .before .pre) (c .before .before .before .before .before .put-line .ensures .ends))
+    (room-then (line (heldLead ++ decimal (c .before .before .before .before .before .before .before .before .args .held)))
+    ((line (brokenLead ++ decimal (c .before .before .before .before .before .before .before .before .args .broken))) ++
+    (line (callsLead ++ decimal (c .before .before .before .before .before .before .before .before .args .refused))))
+    (tail-split (c .before .before .before .before .before .before .before .before .args .held)
+    (c .before .before .before .before .before .before .before .before .args .broken)
+    (c .before .before .before .before .before .before .before .before .args .refused))
+    (c .before .before .before .before .before .before .before .before .args .at) _
+    (c .before .before .before .before .before .before .before .before .pre) (c .before .before .before .before .before .put-line .ensures .ends))
     (c .before .before .put-line2 .ensures .ends)
 
 returns : tie.Need-returns
 returns c =
     put-both
     (line (heldLead ++ decimal (c .before .before .before .before .before .before .before .before .before .args .held)))
-    ((line (brokenLead ++ decimal (c .before .before .before .before .before .before .before .before .before .args .broken))) ++ (line (callsLead ++ decimal (c .before .before .before .before .before .before .before .before .before .args .refused))))
-    (tail-split (c .before .before .before .before .before .before .before .before .before .args .held) (c .before .before .before .before .before .before .before .before .before .args .broken) (c .before .before .before .before .before .before .before .before .before .args .refused))
+    ((line (brokenLead ++ decimal (c .before .before .before .before .before .before .before .before .before .args .broken))) ++
+    (line (callsLead ++ decimal (c .before .before .before .before .before .before .before .before .before .args .refused))))
+    (tail-split (c .before .before .before .before .before .before .before .before .before .args .held)
+    (c .before .before .before .before .before .before .before .before .before .args .broken)
+    (c .before .before .before .before .before .before .before .before .before .args .refused))
     (c .before .before .before .before .before .before .put-line .ensures)
     (put-then (c .before .before .before .put-line2 .ensures) (c .put-line3 .ensures))
 

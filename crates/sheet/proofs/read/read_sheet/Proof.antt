@@ -159,7 +159,9 @@ module _ {M : Type 1} (𝓤 : URA M) (H : Heap 𝓤) (A : Atoms 𝓤) (W : Given
   goes-moved : (n : ℕ) (r : Record) → IsS r
       → ent 𝓤 (sep 𝓤 (sem 𝓤 H A (OwnR n)) Tok) (Its 𝓤 H A moved-past.ended (moved-past.clauses 𝓤 H A mem run) .pre (to-moved n r))
   goes-moved n r is =
-      qed W (‵ (OwnR n) ∷ raw Tok ∷ []) ∵ nothing ! $ owned ! S.the-row (Is S.the-row) (LL.makes S.the-type S′.the-plain 𝓤 H A) r _ is $ fjoin ! $ move ! (1 ∷ 0 ∷ []) $ fjoin ! $ move ! (1 ∷ 0 ∷ []) $ join ! $ frame ! $ done !
+      qed W (‵ (OwnR n) ∷ raw Tok ∷ []) ∵ nothing ! $
+      owned ! S.the-row (Is S.the-row) (LL.makes S.the-type S′.the-plain 𝓤 H A) r _ is $ fjoin ! $ move ! (1 ∷ 0 ∷ []) $
+      fjoin ! $ move ! (1 ∷ 0 ∷ []) $ join ! $ frame ! $ done !
 
   abbrev to-started : Its 𝓤 H A started.ended (started.clauses 𝓤 H A mem run) .Ghost
   to-started = ((tt, tt, tt, tt, tt), tt)
@@ -256,27 +258,37 @@ module _ {M : Type 1} (𝓤 : URA M) (H : Heap 𝓤) (A : Atoms 𝓤) (W : Given
           (λ goes. skips ! $ exec ! C Λ En (later (later mir′.turn-1)) (anyQ (Turned x)) $
           assigns ! (of-opd ! (load ! (from ! (stop !)) (look ! 17 refl))) (from ! (stop !)) (init ! 9 refl (typedR n isR)) $
           use1 W (‵ (OwnR n) ⊛ ‵ (OwnR n)) (twice 𝓤 H A W κ (rd n)) $ split ! $ move ! (0 ∷ 2 ∷ []) $ join ! $
-          calls-known ! fm next-record.ended (next-record.clauses 𝓤 H A mem run) (known .of-next) (to-next n) rec (S′.lowered rec) (‵ (OwnR n) ⊛ raw Tok) (goes-next n) (λ r ws. id⊢ 𝓤 _) (S′.lowers .val-is rec) (and-then ! (load ! (from ! (stop !)) (look ! 9 refl)) (no-more !)) (λ isS.
+          calls-known ! fm next-record.ended (next-record.clauses 𝓤 H A mem run) (known .of-next) (to-next n) rec (S′.lowered rec)
+          (‵ (OwnR n) ⊛ raw Tok) (goes-next n) (λ r ws. id⊢ 𝓤 _) (S′.lowers .val-is rec)
+          (and-then ! (load ! (from ! (stop !)) (look ! 9 refl)) (no-more !)) (λ isS.
           land ! (from ! (stop !)) (init ! 14 refl (LL.lawful S.the-type S′.the-laws 𝓤 H A W .typed rec _ isS .0)) $ drop ! $
           -- [the token; what the reader owns; what s owns; _9; …]
           assigns ! (of-opd ! (load ! (from ! (fld ! refl (stop !))) (look-in ! 19 (sub ! 1 refl (whole !))))) (from ! (stop !)) (init ! 7 refl (tt, typedR n isR .1 .0 .1 .0)) $
           assigns ! (of-opd ! (load ! (from ! (fld ! refl (stop !))) (look-in ! 17 (sub ! 1 refl (whole !))))) (from ! (stop !)) (init ! 5 refl (tt, typedR n isR .1 .1 .0)) $ nothing ! $
           calls-known ! fm take-record.ended (take-record.clauses 𝓤 H A mem run) (known .of-take) (to-take p len n rec) p′ (P′.lowered p′) (‵ ftrue)
-          (lone 𝓤 (owns-make 𝓤 H A (P.the-row ∷ usize ∷ usize ∷ S.the-row ∷ []) _ (LL.makes P.the-type P′.the-plain 𝓤 H A, (uint-makes 𝓤 H A W w64, (uint-makes 𝓤 H A W w64, (LL.makes S.the-type S′.the-plain 𝓤 H A, tt))))
-          (p, (len, (n, (rec, tt)))) (P′.lowered p ∷ [], (vint w64 len ∷ [], (vint w64 n ∷ [], (S′.lowered rec ∷ [], tt)))) (x .is, ((refl, typedR n isR .1 .0 .1 .0 .fits), ((refl, typedR n isR .1 .1 .0 .fits), (isS, tt))))))
-          (λ r ws. id⊢ 𝓤 _) (P′.lowers .val-is p′) (and-then ! (load ! (from ! (stop !)) (look ! 16 refl)) (and-then ! (load ! (from ! (stop !)) (look ! 8 refl)) (and-then ! (load ! (from ! (stop !)) (look ! 6 refl)) (and-then ! (load ! (from ! (stop !)) (look ! 14 refl)) (no-more !))))) (λ isP.
+          (lone 𝓤 (owns-make 𝓤 H A (P.the-row ∷ usize ∷ usize ∷ S.the-row ∷ []) _
+          (LL.makes P.the-type P′.the-plain 𝓤 H A, (uint-makes 𝓤 H A W w64, (uint-makes 𝓤 H A W w64, (LL.makes S.the-type S′.the-plain 𝓤 H A, tt))))
+          (p, (len, (n, (rec, tt)))) (P′.lowered p ∷ [], (vint w64 len ∷ [], (vint w64 n ∷ [], (S′.lowered rec ∷ [], tt))))
+          (x .is, ((refl, typedR n isR .1 .0 .1 .0 .fits), ((refl, typedR n isR .1 .1 .0 .fits), (isS, tt))))))
+          (λ r ws. id⊢ 𝓤 _) (P′.lowers .val-is p′) (and-then ! (load ! (from ! (stop !)) (look ! 16 refl))
+          (and-then ! (load ! (from ! (stop !)) (look ! 8 refl))
+          (and-then ! (load ! (from ! (stop !)) (look ! 6 refl)) (and-then ! (load ! (from ! (stop !)) (look ! 14 refl)) (no-more !))))) (λ isP.
           land ! (from ! (stop !)) (store ! 17 refl (typedP p′ isP)) $ drop ! $ drop ! $
           assigns ! (of-opd ! (load ! (from ! (stop !)) (look ! 17 refl))) (from ! (stop !)) (init ! 3 refl (typedR n isR)) $ move ! (1 ∷ 0 ∷ []) $ join ! $
-          calls-known-last ! fm moved-past.ended (moved-past.clauses 𝓤 H A mem run) (known .of-moved) (to-moved n rec) (rd n′) (T′.lowered (rd n′)) (‵ (OwnR n) ⊛ raw Tok) (goes-moved n rec isS) (λ r ws. id⊢ 𝓤 _) (T′.lowers α .val-is (rd n′))
+          calls-known-last ! fm moved-past.ended (moved-past.clauses 𝓤 H A mem run) (known .of-moved) (to-moved n rec) (rd n′)
+          (T′.lowered (rd n′)) (‵ (OwnR n) ⊛ raw Tok) (goes-moved n rec isS) (λ r ws. id⊢ 𝓤 _) (T′.lowers α .val-is (rd n′))
           (and-then ! (load ! (from ! (stop !)) (look ! 2 refl)) (and-then ! (load ! (from ! (stop !)) (look ! 12 refl)) (no-more !))) (λ isQ.
           land-last ! (from ! (stop !)) (store ! 17 refl (typedR n′ isQ)) $ forget ! 3 refl $ forget ! 5 refl $ forget ! 7 refl $ forget ! 9 refl $ forget ! 11 refl $ forget ! 13 refl $
           again ! Fewer At x (next-turn goes isP) (less (now s) n p (is-true (p .going) goes))))))
           (λ ends. jumps ! $ exec ! C Λ En mir′.t-4 (atRet En Post) $ nothing ! $
-          calls-known ! fm reading-of.ended (reading-of.clauses 𝓤 H A mem run) (known .of-reading) (to-reading p) g (R′.lowered g) (‵ ftrue) (lone 𝓤 (owns-make 𝓤 H A (P.the-row ∷ []) _ (LL.makes P.the-type P′.the-plain 𝓤 H A, tt) (p, tt) (P′.lowered p ∷ [], tt) (x .is, tt)))
+          calls-known ! fm reading-of.ended (reading-of.clauses 𝓤 H A mem run) (known .of-reading) (to-reading p) g (R′.lowered g)
+          (‵ ftrue) (lone 𝓤 (owns-make 𝓤 H A (P.the-row ∷ []) _ (LL.makes P.the-type P′.the-plain 𝓤 H A, tt) (p, tt) (P′.lowered p ∷ [], tt) (x .is, tt)))
           (λ r ws. id⊢ 𝓤 _) (R′.lowers .val-is g) (and-then ! (load ! (from ! (stop !)) (look ! 16 refl)) (no-more !)) (λ isG.
           land ! (from ! (stop !)) (init ! 23 refl (LL.lawful R.the-type R′.the-laws 𝓤 H A W .typed g _ isG .0)) $ drop ! $ drop ! $
           returns ! (look ! 21 refl) $ forget ! 11 refl $ forget ! 15 refl $ forget ! 17 refl $ forget ! 19 refl $ forget ! 21 refl $
-          move ! (21 ∷ 22 ∷ []) $ free1 ! $ move ! (19 ∷ 20 ∷ []) $ free1 ! $ move ! (17 ∷ 18 ∷ []) $ free1 ! $ move ! (15 ∷ 16 ∷ []) $ free1 ! $ move ! (13 ∷ 14 ∷ []) $ free1 ! $ move ! (11 ∷ 12 ∷ []) $ free1 ! $ move ! (9 ∷ 10 ∷ []) $ free1 ! $ move ! (7 ∷ 8 ∷ []) $ free1 ! $ move ! (5 ∷ 6 ∷ []) $ free1 ! $ move ! (3 ∷ 4 ∷ []) $ free1 ! $ free0 ! $
+          move ! (21 ∷ 22 ∷ []) $ free1 ! $ move ! (19 ∷ 20 ∷ []) $ free1 ! $ move ! (17 ∷ 18 ∷ []) $ free1 ! $
+          move ! (15 ∷ 16 ∷ []) $ free1 ! $ move ! (13 ∷ 14 ∷ []) $ free1 ! $ move ! (11 ∷ 12 ∷ []) $ free1 ! $
+          move ! (9 ∷ 10 ∷ []) $ free1 ! $ move ! (7 ∷ 8 ∷ []) $ free1 ! $ move ! (5 ∷ 6 ∷ []) $ free1 ! $ move ! (3 ∷ 4 ∷ []) $ free1 ! $ free0 ! $
           drop ! $ by ! (exits g isG (x .under .done (is-false (p .going) ends))))))
 
     looped : (x : Turn) → Sq W (At x) (runs C Λ En (loop mir′.turn-1) (anyQ Left))
@@ -284,7 +296,11 @@ module _ {M : Type 1} (𝓤 : URA M) (H : Heap 𝓤) (A : Atoms 𝓤) (W : Given
 
     -- the locals once they are allocated, and what the caller hands over
     abbrev Fresh : List (Item 𝓤)
-    Fresh = ‵ (froom (T′.mir erased) l₉ 0) ∷ ‵ (fdies (T′.mir erased) l₉) ∷ ‵ (froom word l₈ 0) ∷ ‵ (fdies word l₈) ∷ ‵ (froom word l₇ 0) ∷ ‵ (fdies word l₇) ∷ ‵ (froom (T′.mir erased) l₆ 0) ∷ ‵ (fdies (T′.mir erased) l₆) ∷ ‵ (froom tyBool l₅ 0) ∷ ‵ (fdies tyBool l₅) ∷ ‵ (froom S′.mir l₄ 0) ∷ ‵ (fdies S′.mir l₄) ∷ ‵ (froom P′.mir l₃ 0) ∷ ‵ (fdies P′.mir l₃) ∷ ‵ (froom (T′.mir erased) l₂ 0) ∷ ‵ (fdies (T′.mir erased) l₂) ∷ ‵ (froom slice l₁ 0) ∷ ‵ (fdies slice l₁) ∷ ‵ (froom R′.mir l₀ 0) ∷ ‵ (fdies R′.mir l₀) ∷ ‵ Own ∷ raw Tok ∷ []
+    Fresh = ‵ (froom (T′.mir erased) l₉ 0) ∷ ‵ (fdies (T′.mir erased) l₉) ∷ ‵ (froom word l₈ 0) ∷ ‵ (fdies word l₈) ∷
+        ‵ (froom word l₇ 0) ∷ ‵ (fdies word l₇) ∷ ‵ (froom (T′.mir erased) l₆ 0) ∷ ‵ (fdies (T′.mir erased) l₆) ∷
+        ‵ (froom tyBool l₅ 0) ∷ ‵ (fdies tyBool l₅) ∷ ‵ (froom S′.mir l₄ 0) ∷ ‵ (fdies S′.mir l₄) ∷ ‵ (froom P′.mir l₃ 0) ∷
+        ‵ (fdies P′.mir l₃) ∷ ‵ (froom (T′.mir erased) l₂ 0) ∷ ‵ (fdies (T′.mir erased) l₂) ∷ ‵ (froom slice l₁ 0) ∷
+        ‵ (fdies slice l₁) ∷ ‵ (froom R′.mir l₀ 0) ∷ ‵ (fdies R′.mir l₀) ∷ ‵ Own ∷ raw Tok ∷ []
 
     -- the MIR, up to the loop
     body : Is (ShrSlice (named 0) κ u8) s (v ∷ [])
@@ -293,9 +309,11 @@ module _ {M : Type 1} (𝓤 : URA M) (H : Heap 𝓤) (A : Atoms 𝓤) (W : Given
         params1 ! $ pass1 ! (init ! 16 refl (shr-slice-lawful 𝓤 H A W (named 0) κ u8 .typed s (v ∷ []) is .0)) $ pass0 ! $
         -- [_9; …; _1; …; room for _0; …; what s owns; the token]
         move ! (20 ∷ 21 ∷ []) $ use1 W (‵ Own ⊛ ‵ Own) (shr-slice-copy 𝓤 H A W (named 0) κ u8 .twice s (v ∷ [])) $ split ! $ move ! (0 ∷ 2 ∷ []) $ join ! $
-        calls-known ! fm new-reader.ended (new-reader.clauses 𝓤 H A mem run) (known .of-new) to-new (rd 0) (T′.lowered (rd 0)) (‵ Own ⊛ raw Tok) goes-new (λ r ws. id⊢ 𝓤 _) (T′.lowers α .val-is (rd 0)) (and-then ! (load ! (from ! (stop !)) (look ! 18 refl)) (no-more !)) (λ isR.
+        calls-known ! fm new-reader.ended (new-reader.clauses 𝓤 H A mem run) (known .of-new) to-new (rd 0) (T′.lowered (rd 0))
+        (‵ Own ⊛ raw Tok) goes-new (λ r ws. id⊢ 𝓤 _) (T′.lowers α .val-is (rd 0)) (and-then ! (load ! (from ! (stop !)) (look ! 18 refl)) (no-more !)) (λ isR.
         land ! (from ! (stop !)) (init ! 17 refl (typedR 0 isR)) $ nothing ! $
-        calls-known ! fm started.ended (started.clauses 𝓤 H A mem run) (known .of-started) to-started beginning (P′.lowered beginning) (‵ ftrue) (lone 𝓤 (id⊢ 𝓤 _)) (λ r ws. id⊢ 𝓤 _) (P′.lowers .val-is beginning) (no-more !) (λ isP.
+        calls-known ! fm started.ended (started.clauses 𝓤 H A mem run) (known .of-started) to-started beginning
+        (P′.lowered beginning) (‵ ftrue) (lone 𝓤 (id⊢ 𝓤 _)) (λ r ws. id⊢ 𝓤 _) (P′.lowers .val-is beginning) (no-more !) (λ isP.
         land ! (from ! (stop !)) (init ! 17 refl (typedP beginning isP)) $ drop ! $ drop ! $
         -- [what the reader owns; the token; what s owns; _9; …]
         first ! $ blocks ! $ looped (record { place = 0; progress = beginning; is = isP; under = begins (now s) })))
@@ -311,13 +329,16 @@ module _ {M : Type 1} (𝓤 : URA M) (H : Heap 𝓤) (A : Atoms 𝓤) (W : Given
 module _ {M : Type 1} (𝓤 : URA M) (H : Heap 𝓤) (A : Atoms 𝓤) (W : Given 𝓤 H A) (mem : Memory → SProp 𝓤) (run : Routine → Fun 𝓤) where
   read-sheet-walks : (𝓣 : Tables 𝓤 H) → FmC 𝓤 H (W .laws) (𝓣 .C) → Known 𝓤 H A mem run (𝓣 .C)
       → Walks 𝓤 H A read-sheet.ended stayed (WpFn 𝓤 H (𝓣 .C) (𝓣 .Λ) code.function) (read-sheet.clauses 𝓤 H A mem run)
-  read-sheet-walks 𝓣 fm known = walked 𝓤 H A read-sheet.ended stayed (read-sheet.clauses 𝓤 H A mem run) (WpFn 𝓤 H (𝓣 .C) (𝓣 .Λ) code.function) (λ κs. (slice-vals, tt)) (λ κs. (shr-slice-tells (named 0) (κs .0) u8, tt))
+  read-sheet-walks 𝓣 fm known = walked 𝓤 H A read-sheet.ended stayed (read-sheet.clauses 𝓤 H A mem run)
+      (WpFn 𝓤 H (𝓣 .C) (𝓣 .Λ) code.function) (λ κs. (slice-vals, tt)) (λ κs. (shr-slice-tells (named 0) (κs .0) u8, tt))
       (λ κs qs bounds a g are. via 𝓤 _ (fst∗ 𝓤 _ (emp 𝓤)) (walk 𝓤 H A W mem run (κs .0) (qs .0) (a .0) 𝓣 fm known (are .0)))
 
 read-sheet-meets : {M : Type 1} (𝓤 : URA M) (H : Heap 𝓤) (A : Atoms 𝓤) (W : Given 𝓤 H A) (mem : Memory → SProp 𝓤) (run : Routine → Fun 𝓤) (𝓣 : Tables 𝓤 H)
     → Known 𝓤 H A mem run (𝓣 .C)
     → Meets 𝓤 H A read-sheet.signature (WpFn 𝓤 H (𝓣 .C) (𝓣 .Λ) code.function) (read-sheet.spec 𝓤 H A mem run)
-read-sheet-meets 𝓤 H A W mem run 𝓣 known = walk-meets 𝓤 H A read-sheet.ended stayed W (goes-none-slice 𝓤 H A W 1 (0 ∷ []) tt (plain (λ _. u8)) yes, tt) (read-sheet.clauses 𝓤 H A mem run) (WpFn 𝓤 H (𝓣 .C) (𝓣 .Λ) code.function) (WpFn-mono 𝓤 H (W .laws) 𝓣 code.function)
+read-sheet-meets 𝓤 H A W mem run 𝓣 known = walk-meets 𝓤 H A read-sheet.ended stayed W
+    (goes-none-slice 𝓤 H A W 1 (0 ∷ []) tt (plain (λ _. u8)) yes, tt) (read-sheet.clauses 𝓤 H A mem run)
+    (WpFn 𝓤 H (𝓣 .C) (𝓣 .Λ) code.function) (WpFn-mono 𝓤 H (W .laws) 𝓣 code.function)
     (read-sheet-walks 𝓤 H A W mem run 𝓣 (fmOf 𝓤 H (W .laws) 𝓣) known)
 
 pub read-sheet-spec : {M : Type 1} → stated.statement M
@@ -326,10 +347,16 @@ read-sheet-spec 𝓤 H 𝓜 𝓖 𝓡 =
     entered 𝓤 H (tripleOf 𝓤 H (𝓖 .A) read-sheet.signature (read-sheet.spec 𝓤 H (𝓖 .A) (𝓜 .mem) (𝓡 .run)))
     (tables 𝓤 H 𝓜 𝓡 code.env .C) (tables 𝓤 H 𝓜 𝓡 code.env .Λ) #read-sheet code.function (code.unfolded 𝓤 H 𝓜 𝓡)
     (read-sheet-meets 𝓤 H (𝓖 .A) (givenOf 𝓤 H 𝓜 𝓖) (𝓜 .mem) (𝓡 .run) (tablesOf 𝓤 H 𝓜 (tables 𝓤 H 𝓜 𝓡 code.env)) (record {
-      of-new = cited 𝓤 H (Its 𝓤 H (𝓖 .A) new-reader.ended (new-reader.clauses 𝓤 H (𝓖 .A) (𝓜 .mem) (𝓡 .run))) 𝓜 𝓡 code.env #new-reader new-reader-def.routine code.calls-sheet·reader·new-reader (new-reader-thm.met 𝓤 H 𝓜 𝓖 𝓡);
-      of-started = cited 𝓤 H (Its 𝓤 H (𝓖 .A) started.ended (started.clauses 𝓤 H (𝓖 .A) (𝓜 .mem) (𝓡 .run))) 𝓜 𝓡 code.env #started started-def.routine code.calls-sheet·read·started (started-thm.met 𝓤 H 𝓜 𝓖 𝓡);
-      of-next = cited 𝓤 H (Its 𝓤 H (𝓖 .A) next-record.ended (next-record.clauses 𝓤 H (𝓖 .A) (𝓜 .mem) (𝓡 .run))) 𝓜 𝓡 code.env #next-record next-record-def.routine code.calls-sheet·reader·next-record (next-record-thm.met 𝓤 H 𝓜 𝓖 𝓡);
-      of-take = cited 𝓤 H (Its 𝓤 H (𝓖 .A) take-record.ended (take-record.clauses 𝓤 H (𝓖 .A) (𝓜 .mem) (𝓡 .run))) 𝓜 𝓡 code.env #take-record take-record-def.routine code.calls-sheet·read·take-record (take-record-thm.met 𝓤 H 𝓜 𝓖 𝓡);
-      of-moved = cited 𝓤 H (Its 𝓤 H (𝓖 .A) moved-past.ended (moved-past.clauses 𝓤 H (𝓖 .A) (𝓜 .mem) (𝓡 .run))) 𝓜 𝓡 code.env #moved-past moved-past-def.routine code.calls-sheet·reader·moved-past (moved-past-thm.met 𝓤 H 𝓜 𝓖 𝓡);
-      of-reading = cited 𝓤 H (Its 𝓤 H (𝓖 .A) reading-of.ended (reading-of.clauses 𝓤 H (𝓖 .A) (𝓜 .mem) (𝓡 .run))) 𝓜 𝓡 code.env #reading-of reading-of-def.routine code.calls-sheet·read·reading-of (reading-of-thm.met 𝓤 H 𝓜 𝓖 𝓡);
+      of-new = cited 𝓤 H (Its 𝓤 H (𝓖 .A) new-reader.ended (new-reader.clauses 𝓤 H (𝓖 .A) (𝓜 .mem) (𝓡 .run))) 𝓜 𝓡 code.env
+          #new-reader new-reader-def.routine code.calls-sheet·reader·new-reader (new-reader-thm.met 𝓤 H 𝓜 𝓖 𝓡);
+      of-started = cited 𝓤 H (Its 𝓤 H (𝓖 .A) started.ended (started.clauses 𝓤 H (𝓖 .A) (𝓜 .mem) (𝓡 .run))) 𝓜 𝓡 code.env #started
+          started-def.routine code.calls-sheet·read·started (started-thm.met 𝓤 H 𝓜 𝓖 𝓡);
+      of-next = cited 𝓤 H (Its 𝓤 H (𝓖 .A) next-record.ended (next-record.clauses 𝓤 H (𝓖 .A) (𝓜 .mem) (𝓡 .run))) 𝓜 𝓡 code.env
+          #next-record next-record-def.routine code.calls-sheet·reader·next-record (next-record-thm.met 𝓤 H 𝓜 𝓖 𝓡);
+      of-take = cited 𝓤 H (Its 𝓤 H (𝓖 .A) take-record.ended (take-record.clauses 𝓤 H (𝓖 .A) (𝓜 .mem) (𝓡 .run))) 𝓜 𝓡 code.env
+          #take-record take-record-def.routine code.calls-sheet·read·take-record (take-record-thm.met 𝓤 H 𝓜 𝓖 𝓡);
+      of-moved = cited 𝓤 H (Its 𝓤 H (𝓖 .A) moved-past.ended (moved-past.clauses 𝓤 H (𝓖 .A) (𝓜 .mem) (𝓡 .run))) 𝓜 𝓡 code.env
+          #moved-past moved-past-def.routine code.calls-sheet·reader·moved-past (moved-past-thm.met 𝓤 H 𝓜 𝓖 𝓡);
+      of-reading = cited 𝓤 H (Its 𝓤 H (𝓖 .A) reading-of.ended (reading-of.clauses 𝓤 H (𝓖 .A) (𝓜 .mem) (𝓡 .run))) 𝓜 𝓡 code.env
+          #reading-of reading-of-def.routine code.calls-sheet·read·reading-of (reading-of-thm.met 𝓤 H 𝓜 𝓖 𝓡);
     }))

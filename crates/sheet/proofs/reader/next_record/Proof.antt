@@ -84,7 +84,8 @@ module _ {M : Type 1} (𝓤 : URA M) (H : Heap 𝓤) (A : Atoms 𝓤) (W : Given
   exits : ent 𝓤 (⋆ 𝓤 H A (‵ (S.the-row .own found (val found ∷ [])) ∷ raw Tok ∷ ‵ (Own κ d) ∷ [])) (Post (val found))
   exits =
       qed W (‵ (S.the-row .own found (val found ∷ [])) ∷ raw Tok ∷ ‵ (Own κ d) ∷ []) ∵
-      suffices ! _ (ends-at 𝓤 H A next-record.ended stayed (next-record.clauses 𝓤 H A mem run) W (((κ, tt), (q, tt), tt, (d, tt), (mach ∷ [], tt)), tt) (val found) found (tt, tt) (tt, tt)) $ says ! refl $
+      suffices ! _ (ends-at 𝓤 H A next-record.ended stayed (next-record.clauses 𝓤 H A mem run) W
+      (((κ, tt), (q, tt), tt, (d, tt), (mach ∷ [], tt)), tt) (val found) found (tt, tt) (tt, tt)) $ says ! refl $
       move ! (1 ∷ []) $ frame ! $ nothing ! $ move ! (2 ∷ 0 ∷ []) $ fjoin ! $ frame ! $ done !
 
   module _ (C : Calls 𝓤 H) (Λ : Loops 𝓤 H) (fm : FmC 𝓤 H (W .laws) C) (known : Triple 𝓤 (C #record-at) (Its 𝓤 H A record-at.ended (record-at.clauses 𝓤 H A mem run))) where
@@ -97,7 +98,8 @@ module _ {M : Type 1} (𝓤 : URA M) (H : Heap 𝓤) (A : Atoms 𝓤) (W : Given
         assigns ! (of-opd ! (load ! (from ! (fld ! refl (stop !))) (look-in ! 4 (sub ! 1 refl (whole !))))) (from ! (stop !)) (init ! 0 refl (tt, wt .1 .1 .0)) $
         -- [_3; …; _2; …; _1; …; room for _0; …; what the reader owns; the token]
         move ! (8 ∷ 9 ∷ []) $ use1 W (‵ (Own κ d) ⊛ ‵ (Own κ d)) (twice 𝓤 H A W κ d) $ split ! $ move ! (0 ∷ 2 ∷ []) $ join ! $
-        calls-known ! fm record-at.ended (record-at.clauses 𝓤 H A mem run) known to found (val found) (‵ (Own κ d) ⊛ raw Tok) (goes (wt .1 .1 .0 .fits)) (λ r ws. id⊢ 𝓤 _) (LL.tells S.the-type S′.the-laws found)
+        calls-known ! fm record-at.ended (record-at.clauses 𝓤 H A mem run) known to found (val found) (‵ (Own κ d) ⊛ raw Tok)
+        (goes (wt .1 .1 .0 .fits)) (λ r ws. id⊢ 𝓤 _) (LL.tells S.the-type S′.the-laws found)
         (and-then ! (load ! (from ! (stop !)) (look ! 4 refl)) (and-then ! (load ! (from ! (stop !)) (look ! 2 refl)) (no-more !))) (λ is.
         -- [the result; the token; what the reader owns; _3; …]
         land ! (from ! (stop !)) (init ! 9 refl (LL.lawful S.the-type S′.the-laws 𝓤 H A W .typed found _ is .0)) $
@@ -108,13 +110,16 @@ module _ {M : Type 1} (𝓤 : URA M) (H : Heap 𝓤) (A : Atoms 𝓤) (W : Given
   next-record-walks : (C : Calls 𝓤 H) (Λ : Loops 𝓤 H) → FmC 𝓤 H (W .laws) C
       → Triple 𝓤 (C #record-at) (Its 𝓤 H A record-at.ended (record-at.clauses 𝓤 H A mem run))
       → Walks 𝓤 H A next-record.ended stayed (WpFn 𝓤 H C Λ code.function) (next-record.clauses 𝓤 H A mem run)
-  next-record-walks C Λ fm known = walked 𝓤 H A next-record.ended stayed (next-record.clauses 𝓤 H A mem run) (WpFn 𝓤 H C Λ code.function) (λ κs. (LL.vals (decl κs) (laws κs), tt)) (λ κs. (LL.tells (decl κs) (laws κs), tt))
+  next-record-walks C Λ fm known = walked 𝓤 H A next-record.ended stayed (next-record.clauses 𝓤 H A mem run)
+      (WpFn 𝓤 H C Λ code.function) (λ κs. (LL.vals (decl κs) (laws κs), tt)) (λ κs. (LL.tells (decl κs) (laws κs), tt))
       (λ κs qs bounds a g are. via 𝓤 _ (fst∗ 𝓤 _ (emp 𝓤)) (walk 𝓤 H A W mem run (κs .0) (qs .0) (a .0) C Λ fm known (typed 𝓤 H A W (κs .0) (a .0) (are .0))))
 
 next-record-meets : {M : Type 1} (𝓤 : URA M) (H : Heap 𝓤) (A : Atoms 𝓤) (W : Given 𝓤 H A) (mem : Memory → SProp 𝓤) (run : Routine → Fun 𝓤) (𝓣 : Tables 𝓤 H)
     → Triple 𝓤 (𝓣 .C #record-at) (Its 𝓤 H A record-at.ended (record-at.clauses 𝓤 H A mem run))
     → Meets 𝓤 H A next-record.signature (WpFn 𝓤 H (𝓣 .C) (𝓣 .Λ) code.function) (next-record.spec 𝓤 H A mem run)
-next-record-meets 𝓤 H A W mem run 𝓣 known = walk-meets 𝓤 H A next-record.ended stayed W (goes-none 𝓤 H A W 1 Row yes (λ κs x f. refl), tt) (next-record.clauses 𝓤 H A mem run) (WpFn 𝓤 H (𝓣 .C) (𝓣 .Λ) code.function) (WpFn-mono 𝓤 H (W .laws) 𝓣 code.function)
+next-record-meets 𝓤 H A W mem run 𝓣 known = walk-meets 𝓤 H A next-record.ended stayed W
+    (goes-none 𝓤 H A W 1 Row yes (λ κs x f. refl), tt) (next-record.clauses 𝓤 H A mem run) (WpFn 𝓤 H (𝓣 .C) (𝓣 .Λ) code.function)
+    (WpFn-mono 𝓤 H (W .laws) 𝓣 code.function)
     (next-record-walks 𝓤 H A W mem run (𝓣 .C) (𝓣 .Λ) (fmOf 𝓤 H (W .laws) 𝓣) known)
 
 pub next-record-spec : {M : Type 1} → stated.statement M
@@ -123,4 +128,5 @@ next-record-spec 𝓤 H 𝓜 𝓖 𝓡 =
     entered 𝓤 H (tripleOf 𝓤 H (𝓖 .A) next-record.signature (next-record.spec 𝓤 H (𝓖 .A) (𝓜 .mem) (𝓡 .run)))
     (tables 𝓤 H 𝓜 𝓡 code.env .C) (tables 𝓤 H 𝓜 𝓡 code.env .Λ) #next-record code.function (code.unfolded 𝓤 H 𝓜 𝓡)
     (next-record-meets 𝓤 H (𝓖 .A) (givenOf 𝓤 H 𝓜 𝓖) (𝓜 .mem) (𝓡 .run) (tablesOf 𝓤 H 𝓜 (tables 𝓤 H 𝓜 𝓡 code.env))
-    (cited 𝓤 H (Its 𝓤 H (𝓖 .A) record-at.ended (record-at.clauses 𝓤 H (𝓖 .A) (𝓜 .mem) (𝓡 .run))) 𝓜 𝓡 code.env #record-at record-at-def.routine code.calls-sheet·record·record-at (record-at-thm.met 𝓤 H 𝓜 𝓖 𝓡)))
+    (cited 𝓤 H (Its 𝓤 H (𝓖 .A) record-at.ended (record-at.clauses 𝓤 H (𝓖 .A) (𝓜 .mem) (𝓡 .run))) 𝓜 𝓡 code.env #record-at
+    record-at-def.routine code.calls-sheet·record·record-at (record-at-thm.met 𝓤 H 𝓜 𝓖 𝓡)))
