@@ -1,5 +1,6 @@
-//! Cases A to L of document 01. The reports are worked out by hand from its
-//! words. Where a case names no steps, event n is in step n.
+//! Cases A to L of document 01, and two of sixteen events that can all stand in
+//! an order. The reports are worked out by hand from the document's words. Where
+//! a case names no steps, event n is in step n (in the last two, n modulo 8).
 
 pub struct Case {
     /// Also the folder below `examples`.
@@ -120,5 +121,50 @@ pub const CASES: &[Case] = &[
         calls: &[16, 0, 16, 1, 17, 2],
         report: "events 3 rules 1\n0 done\n2 lapsed\n1 refused\n\
                  held 0\nbroken 0\nrefused calls 0\n",
+    },
+    // Fifteen events that each need the sixteenth.
+    Case {
+        name: "needs-one",
+        sheet: &[
+            // events
+            1, 0, 6, 1, 1, 6, 1, 2, 6, 1, 3, 6, 1, 4, 6, 1, 5, 6, 1, 6, 6, 1, 7, 6, // 0 to 7
+            1, 0, 6, 1, 1, 6, 1, 2, 6, 1, 3, 6, 1, 4, 6, 1, 5, 6, 1, 6, 6, 1, 7, 6, // 8 to 15
+            // needs
+            3, 0, 15, 3, 1, 15, 3, 2, 15, 3, 3, 15, 3, 4, 15, 3, 5, 15, 3, 6, 15, 3, 7, 15, 3, 8,
+            15, 3, 9, 15, 3, 10, 15, 3, 11, 15, 3, 12, 15, 3, 13, 15, 3, 14, 15, 5,
+        ],
+        calls: &[
+            // hand-ins
+            16, 0, 16, 1, 16, 2, 16, 3, 16, 4, 16, 5, 16, 6, 16, 7, 16, 8, 16, 9, 16, 10, 16, 11,
+            16, 12, 16, 13, 16, 14, 16, 15, //
+            // closings, winding up
+            17, 0, 17, 1, 17, 2, 17, 3, 17, 4, 17, 5, 17, 6, 17, 7, 18,
+        ],
+        report: "events 16 rules 15\n0 done\n15 done\n1 done\n2 done\n3 done\n\
+                 4 done\n5 done\n6 done\n7 done\n8 done\n9 done\n10 done\n11 done\n\
+                 12 done\n13 done\n14 done\nheld 0\nbroken 0\nrefused calls 0\n",
+    },
+    // A ring of sixteen needs.
+    Case {
+        name: "ring",
+        sheet: &[
+            // events
+            1, 0, 6, 1, 1, 6, 1, 2, 6, 1, 3, 6, 1, 4, 6, 1, 5, 6, 1, 6, 6, 1, 7, 6, // 0 to 7
+            1, 0, 6, 1, 1, 6, 1, 2, 6, 1, 3, 6, 1, 4, 6, 1, 5, 6, 1, 6, 6, 1, 7, 6, // 8 to 15
+            // needs
+            3, 0, 1, 3, 1, 2, 3, 2, 3, 3, 3, 4, 3, 4, 5, 3, 5, 6, 3, 6, 7, 3, 7, 8, 3, 8, 9, 3, 9,
+            10, 3, 10, 11, 3, 11, 12, 3, 12, 13, 3, 13, 14, 3, 14, 15, 3, 15, 0, 5,
+        ],
+        calls: &[
+            // hand-ins
+            16, 0, 16, 1, 16, 2, 16, 3, 16, 4, 16, 5, 16, 6, 16, 7, 16, 8, 16, 9, 16, 10, 16, 11,
+            16, 12, 16, 13, 16, 14, 16, 15, //
+            // closings, winding up
+            17, 0, 17, 1, 17, 2, 17, 3, 17, 4, 17, 5, 17, 6, 17, 7, 18,
+        ],
+        report: "events 16 rules 16\n0 refused\n15 refused\n14 refused\n\
+                 13 refused\n12 refused\n11 refused\n10 refused\n9 refused\n\
+                 8 refused\n7 refused\n6 refused\n5 refused\n4 refused\n3 refused\n\
+                 2 refused\n1 refused\nheld 0\nbroken 0\nrefused calls 0\n",
     },
 ];

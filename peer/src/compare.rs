@@ -2,8 +2,9 @@
 
 use crate::peer::report::report;
 use crate::peer::rules::Rule;
+use crate::peer::scheduler::Met;
 use crate::peer::set::members;
-use crate::peer::{trace, Answer, Cause, Fate, Reason, Refused, Run};
+use crate::peer::{trace, Answer, Cause, Fate, Reason, Refused, Run, Sheet};
 use crate::random::{calls, sheet, Random};
 use std::fmt;
 
@@ -36,8 +37,25 @@ pub struct Tally {
     pub no_order: usize,
     pub wind_up: usize,
     pub lapsed: usize,
-    /// Orders done; the place is the length.
-    pub orders: [usize; 7],
+    /// Orders of held events alone that were done, orders with a forced event,
+    /// and orders of either sort where more than seven events could have stood
+    /// in one; the place is the length. The second has nothing at length 1: an
+    /// order is only sought for an event that was handed in.
+    pub held_orders: [usize; 7],
+    pub forced_orders: [usize; 7],
+    pub wide_orders: [usize; 7],
+    /// Admitted sheets: of at most four events; of 16 events and 16 rules; with
+    /// more than seven events that are delayable or forcible, so that an order
+    /// could contain them; with sixteen such events.
+    pub small: usize,
+    pub full: usize,
+    pub wide: usize,
+    pub widest: usize,
+    /// Lists with a search among more than seven events and among sixteen, and
+    /// with one among more than seven that found nothing.
+    pub wide_searches: usize,
+    pub widest_searches: usize,
+    pub wide_in_vain: usize,
     /// Rules recorded as broken, by form. An order is never among them: only
     /// its first event could break it, done alone and so not rejectable, and
     /// then the second is delayable and has waited for it.
@@ -77,9 +95,8 @@ impl Tally {
         for line in run.scheduler.history() {
             *self.of_cause(line.cause) += 1;
         }
-        for (length, met) in run.scheduler.orders().iter().enumerate() {
-            self.orders[length] += met;
-        }
+        self.add_sheet(run.scheduler.sheet());
+        self.add_met(run.scheduler.met());
         let (sheet, state) = (run.scheduler.sheet(), run.scheduler.state());
         for number in members(state.broken) {
             *self.of_form(&sheet.rules[usize::from(number)]) += 1;
@@ -88,6 +105,26 @@ impl Tally {
         self.held_at_end += usize::from(state.held != 0);
         let settled = run.scheduler.history().len() == sheet.events();
         self.all_settled += usize::from(settled);
+    }
+
+    fn add_sheet(&mut self, sheet: &Sheet) {
+        let (events, rules) = (sheet.events(), sheet.rules.len());
+        let usable = (sheet.delayable | sheet.forcible).count_ones();
+        self.small += usize::from(events <= 4);
+        self.full += usize::from(events == 16 && rules == 16);
+        self.wide += usize::from(usable > 7);
+        self.widest += usize::from(usable == 16);
+    }
+
+    fn add_met(&mut self, met: &Met) {
+        for length in 1..=6 {
+            self.held_orders[length] += met.held_orders[length];
+            self.forced_orders[length] += met.forced_orders[length];
+            self.wide_orders[length] += met.wide_orders[length];
+        }
+        self.wide_searches += usize::from(met.widest > 7);
+        self.widest_searches += usize::from(met.widest == 16);
+        self.wide_in_vain += usize::from(met.widest_in_vain > 7);
     }
 
     fn of_cause(&mut self, cause: Cause) -> &mut usize {
@@ -110,8 +147,8 @@ impl Tally {
         }
     }
 
-    /// The first thing that was met fewer than `least` times.
-    pub fn missing(&self, least: usize) -> Option<String> {
+    /// Everything that has to be met, with how often it was.
+    fn counts(&self) -> Vec<(String, usize)> {
         let named = [
             ("calls turned down by 9", self.no_such),
             ("calls turned down by 10", self.closed_already),
@@ -131,19 +168,35 @@ impl Tally {
             ("lists with a broken rule", self.broken),
             ("lists with an event held to the end", self.held_at_end),
             ("lists with every event settled", self.all_settled),
+            ("small sheets", self.small),
+            ("sheets of 16 events and 16 rules", self.full),
+            ("sheets with more than 7 usable events", self.wide),
+            ("sheets with 16 usable events", self.widest),
+            ("searches among more than 7 events", self.wide_searches),
+            ("searches among 16 events", self.widest_searches),
+            ("searches among more than 7 in vain", self.wide_in_vain),
         ];
-        let numbered = |name, list: &[usize]| -> Vec<(String, usize)> {
-            let list = list.iter().enumerate().skip(1);
-            list.map(|(number, met)| (format!("{name} {number}"), *met))
-                .collect()
-        };
-        let named = named.iter().map(|(name, met)| (name.to_string(), *met));
-        let sheets = numbered("sheets refused by", &self.sheets_refused);
-        let orders = numbered("orders of length", &self.orders);
-        let mut all = named.chain(sheets).chain(orders);
-        let few = all.find(|(_, met)| *met < least);
+        let mut counts: Vec<(String, usize)> = Vec::new();
+        counts.extend(named.map(|(name, met)| (name.to_string(), met)));
+        counts.extend(numbered("sheets refused by", &self.sheets_refused, 1));
+        counts.extend(numbered("held orders of length", &self.held_orders, 1));
+        counts.extend(numbered("forced orders of length", &self.forced_orders, 2));
+        counts.extend(numbered("wide orders of length", &self.wide_orders, 1));
+        counts
+    }
+
+    /// The first thing that was met fewer than `least` times.
+    pub fn missing(&self, least: usize) -> Option<String> {
+        let few = self.counts().into_iter().find(|(_, met)| *met < least);
         few.map(|(name, met)| format!("{name}: {met}, fewer than {least}"))
     }
+}
+
+/// The counts of a list from the place `from` on, each with its place as name.
+fn numbered(name: &str, list: &[usize], from: usize) -> Vec<(String, usize)> {
+    let list = list.iter().enumerate().skip(from);
+    let named = list.map(|(number, met)| (format!("{name} {number}"), *met));
+    named.collect()
 }
 
 /// A pair on which the two differ.

@@ -1,5 +1,5 @@
-//! A second scheduler, written from document 01 alone, and
-//! its comparison with the proved library.
+//! A second scheduler, written from the documents alone (01, and the requests of
+//! 02 that have landed), and its comparison with the proved library.
 
 pub mod cases;
 pub mod compare;

@@ -1,4 +1,4 @@
-//! Cases A to L of document 01.
+//! Cases A to L of document 01, and the two cases of sixteen events.
 
 use peer::cases::CASES;
 use peer::{library, peer as second};

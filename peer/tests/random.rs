@@ -2,7 +2,8 @@
 //! the environment gives another seed.
 
 use peer::compare::{compare, COUNT, SEED};
-use peer::library;
+use peer::peer::Sheet;
+use peer::{library, peer as second};
 
 /// Everything that the comparison is about has to be met this often.
 const LEAST: usize = 150;
@@ -22,4 +23,21 @@ fn library_agrees_with_peer() {
         }
         Err(difference) => panic!("seed {seed}, {difference}"),
     }
+}
+
+/// A library that is wrong only where all sixteen events could stand in an
+/// order is found out, and too few pairs are noticed.
+#[test]
+fn the_comparison_can_fail() {
+    let wrong = |sheet: &[u8], calls: &[u8]| {
+        let mut report = second::run(sheet, calls);
+        let read = Sheet::read(sheet);
+        if read.is_ok_and(|sheet| (sheet.delayable | sheet.forcible).count_ones() == 16) {
+            report.pop();
+        }
+        report
+    };
+    assert!(compare(SEED, 1_000, wrong).is_err());
+    let few = compare(SEED, 1_000, second::run).expect("the peer agrees with itself");
+    assert!(few.missing(LEAST).is_some());
 }

@@ -5,30 +5,188 @@ mod plain;
 
 use peer::compare::{pair, SEED};
 use peer::peer::report::report;
-use peer::peer::{trace, Sheet};
+use peer::peer::search::Search;
+use peer::peer::set::{has, members, one, Set};
+use peer::peer::{trace, Sheet, State};
 use peer::random::Random;
-use plain::Plain;
+use plain::{Fate, Plain};
 
 const PAIRS: usize = 20_000;
+const STATES: usize = 30_000;
+const WIDE_STATES: usize = 120;
+/// Trying every order takes too long among more events than these, in lists
+/// and states, and in the wide states.
+const MOST: u32 = 7;
+const MOST_WIDE: u32 = 11;
+
+fn agree_on_list(sheet: &[u8], calls: &[u8]) {
+    let mut plain = Plain::read(sheet);
+    plain.run(calls);
+    let peer = report(&trace(sheet, calls));
+    assert_eq!(
+        peer,
+        plain.report(),
+        "sheet {sheet:02x?} calls {calls:02x?}"
+    );
+}
 
 #[test]
 fn peer_agrees_with_every_order_tried() {
     let mut random = Random::new(SEED ^ 0x5ea7c4);
-    let mut admitted = 0;
+    let mut compared = 0;
     for _ in 0..PAIRS {
-        let (sheet, calls) = pair(&mut random);
-        if Sheet::read(&sheet).is_err() {
-            continue;
+        let (bytes, calls) = pair(&mut random);
+        match Sheet::read(&bytes) {
+            Ok(sheet) if (sheet.forcible | sheet.delayable).count_ones() <= MOST => {
+                agree_on_list(&bytes, &calls);
+                compared += 1;
+            }
+            _ => {}
         }
-        let mut plain = Plain::read(&sheet);
-        plain.run(&calls);
-        let peer = report(&trace(&sheet, &calls));
-        assert_eq!(
-            peer,
-            plain.report(),
-            "sheet {sheet:02x?} calls {calls:02x?}"
-        );
-        admitted += 1;
     }
-    assert!(admitted > PAIRS / 2, "{admitted} admitted");
+    assert!(compared > PAIRS / 3, "{compared} compared");
+}
+
+/// Fates of any sort, with at most `most` events that an order could contain.
+fn any_fates(random: &mut Random, sheet: &Sheet, most: u32) -> Vec<Fate> {
+    let settled = random.pick(&[0, 10, 30, 60]);
+    let mut events: Vec<u8> = (0..sheet.events() as u8).collect();
+    random.shuffle(&mut events);
+    let mut fates = vec![Fate::Open; events.len()];
+    let mut usable = 0;
+    for event in events {
+        let mut fate = random.pick(&[Fate::Held, Fate::Held, Fate::Open]);
+        let counts = fate == Fate::Held || has(sheet.forcible, event);
+        if random.percent(settled) || (counts && usable == most) {
+            fate = random.pick(&[Fate::Done, Fate::Done, Fate::Refused, Fate::Lapsed]);
+        } else {
+            usable += u32::from(counts);
+        }
+        fates[usize::from(event)] = fate;
+    }
+    fates
+}
+
+fn events_with(fates: &[Fate], fate: Fate) -> Set {
+    let numbered = fates.iter().enumerate();
+    let fitting = numbered.filter(|(_, own)| **own == fate);
+    fitting.fold(0, |set, (event, _)| set | one(event as u8))
+}
+
+/// A state that a list may or may not lead to, both ways.
+struct Both {
+    bytes: Vec<u8>,
+    sheet: Sheet,
+    state: State,
+    plain: Plain,
+}
+
+/// A random state of a random sheet, if that is admitted.
+fn any_state(random: &mut Random, most: u32) -> Option<Both> {
+    let (bytes, _) = pair(random);
+    let sheet = Sheet::read(&bytes).ok()?;
+    let fates = any_fates(random, &sheet, most);
+    let rules = 0..sheet.rules.len();
+    let chance = random.pick(&[0, 0, 10]);
+    let broken: Vec<bool> = rules.map(|_| random.percent(chance)).collect();
+    let mut plain = Plain::read(&bytes);
+    plain.put(&fates, &broken);
+    let mut state = State {
+        held: events_with(&fates, Fate::Held),
+        done: events_with(&fates, Fate::Done),
+        refused: events_with(&fates, Fate::Refused),
+        lapsed: events_with(&fates, Fate::Lapsed),
+        ..State::default()
+    };
+    for (rule, is_broken) in broken.into_iter().enumerate() {
+        state.broken |= if is_broken { one(rule as u8) } else { 0 };
+    }
+    Some(Both {
+        bytes,
+        sheet,
+        state,
+        plain,
+    })
+}
+
+/// How many orders of held events and how many with an open one were chosen;
+/// the place is the length.
+type Met = [[usize; 7]; 2];
+
+/// The chosen order of each held event, and that of the lowest that has one.
+fn agree_on_state(both: &mut Both, search: &mut Search, met: &mut Met) {
+    let (sheet, state) = (&both.sheet, &both.state);
+    let mut chosen = |wanted| -> Option<Vec<u8>> {
+        let order = search.chosen(sheet, state, wanted)?;
+        Some(order.events().collect())
+    };
+    let mut first = None;
+    for event in members(state.held) {
+        let order = both.plain.chosen(event);
+        let place = format!("{event} in {:02x?} {state:x?}", both.bytes);
+        assert_eq!(chosen(one(event)), order, "{place}");
+        if let Some(order) = &order {
+            let forced = order.iter().any(|event| !has(state.held, *event));
+            met[usize::from(forced)][order.len()] += 1;
+        }
+        first = first.or(order);
+    }
+    assert_eq!(chosen(state.held), first, "{:02x?} {state:x?}", both.bytes);
+}
+
+fn agree_on_states(seed: u64, count: usize, least: u32, most: u32) -> Met {
+    let mut random = Random::new(seed);
+    let mut search = Search::default();
+    let mut met = Met::default();
+    let mut compared = 0;
+    while compared < count {
+        let Some(mut both) = any_state(&mut random, most) else {
+            continue;
+        };
+        let forcible = both.state.open(&both.sheet) & both.sheet.forcible;
+        if (both.state.held | forcible).count_ones() >= least {
+            agree_on_state(&mut both, &mut search, &mut met);
+            compared += 1;
+        }
+    }
+    met
+}
+
+#[test]
+fn search_finds_the_first_order_of_any_state() {
+    let met = agree_on_states(SEED ^ 0x57a7e, STATES, 0, MOST);
+    println!("{met:?}");
+    assert!(met[0][1..].iter().all(|count| *count > 100), "{met:?}");
+    assert!(met[1][2..].iter().all(|count| *count > 100), "{met:?}");
+}
+
+#[test]
+fn search_finds_the_first_order_of_wide_states() {
+    let met = agree_on_states(SEED ^ 0x31de, WIDE_STATES, MOST + 1, MOST_WIDE);
+    println!("{met:?}");
+}
+
+/// What S-4 rests on, tried out: the shortest viable orders for an event are
+/// made of the same events.
+#[test]
+fn shortest_orders_have_the_same_events() {
+    let mut random = Random::new(SEED ^ 0x5a3e);
+    let mut several = 0;
+    for _ in 0..STATES {
+        let Some(mut both) = any_state(&mut random, MOST - 1) else {
+            continue;
+        };
+        for event in members(both.state.held) {
+            let lengths = 1..=6;
+            let mut orders = lengths.map(|length| both.plain.orders(event, length));
+            let Some(shortest) = orders.find(|orders| !orders.is_empty()) else {
+                continue;
+            };
+            several += usize::from(shortest.len() > 1);
+            let set = |order: &Vec<u8>| order.iter().fold(0, |set, event| set | one(*event));
+            let same = shortest.iter().all(|order| set(order) == set(&shortest[0]));
+            assert!(same, "{event} in {:02x?} {:x?}", both.bytes, both.state);
+        }
+    }
+    assert!(several > 1_000, "{several} with several orders");
 }

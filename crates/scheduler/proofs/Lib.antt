@@ -3,6 +3,8 @@ pub mod Laws
 pub mod CoherentTests
 pub mod Branches
 pub mod Searching
+pub mod LeastSets
+pub mod Sizes
 pub mod SearchLoops
 pub mod Settling
 pub mod SettleLoops

@@ -1,54 +1,40 @@
--- The loops over the rules and the events, and the search, at each of their ends.
+-- The search in code, at each of its ends.
 use Prim.Native.Nat.{ℕ, zero, suc, _+_, _-_, _≤_, _<_}
-use native.Mathlib.Nat.{sub-zero}
 use native.Mathlib.Numerals.{sub-one}
 use native.Mathlib.Omega.{arith}
-use mathlib.Core.Bool.{Bool, true, false, not, _&&_, _||_, and-false}
+use native.Mathlib.Decide.{ℕ-discrete}
+use borrow.Author.Tests.{lt-ltb, ltb-true}
+use mathlib.Core.Bool.{Bool, true, false, not, _&&_, _||_}
 use mathlib.Core.List.{List, [], _∷_}
 use mathlib.Core.Option.{Option, none, some, Option·map}
-use mathlib.Core.Path.{_≡_, refl, sym, _∙_, ap}
-use lib.Dec.{eqb}
+use mathlib.Core.Path.{_≡_, refl, sym, _∙_, ap, subst, fun-ext}
+use lib.Dec.{eqb, ltb}
 use lib.ListN.{length, getD, set, replicate}
 use Rattle.scheduler.specs.declared.order.Found.{Found}
-use Rattle.scheduler.specs.Prelude.{take, Plan, RuleLine, Rule, Standing, State}
-use Rattle.plan.specs.Base.{firstOf, when, tabulate, readAt}
-use Rattle.plan.specs.Plans.{blankRule, eventCount}
-use Rattle.scheduler.specs.State.{fateOf}
-use Rattle.scheduler.specs.Rules.{forbidden, owing}
-use Rattle.plan.specs.Rules.{bars, forbids, owes, ready}
-use Rattle.scheduler.specs.Orders.{doOne, mayDo, orderOf, chosen, noOrder, foundOrder}
+use Rattle.scheduler.specs.Prelude.{take, State}
+use Rattle.plan.specs.Base.{firstOf, when, tabulate, lowest}
+use Rattle.plan.specs.Fates.{Fates}
+use Rattle.orders.specs.Closed.{Events, Least}
+use Rattle.orders.specs.Runs.{doing}
+use Rattle.orders.specs.Stepwise.{blocked, less, nothing, next, stepwise}
+use Rattle.members.specs.declared.closed.Members.{Members}
+use Rattle.members.specs.declared.view.View.{View}
+use Rattle.members.specs.Sets.{inSet, orSixteen, Shows}
+use Rattle.members.specs.Growing.{Closes}
+use Rattle.scheduler.specs.State.{fateOf, settleAs, Sized}
+use Rattle.scheduler.specs.Rules.{stands}
+use Rattle.scheduler.specs.Orders.{doOne, chosen, noOrder, foundOrder}
+use Rattle.scheduler.specs.Internal.Hopeful.{Hopeful}
 use Rattle.scheduler.specs.Internal.Placed.{placed, foundFrom}
-use Rattle.plan.proofs.Tests.{clash}
-use Rattle.scheduler.proofs.Searching.{every, order-some}
-use Rattle.plan.specs.Fates.{fatesOf}
-use Rattle.plan.proofs.Loops.{first-next, first-end, first-here}
-
--- the tests of the rule in place i, over the parts that the loops hold and any plan: with a state's own they are its
--- tests
-abbrev pub ruleIn : List RuleLine → ℕ → Rule
-ruleIn rules i = readAt 16 rules i blankRule .rule
-
-abbrev pub standsIn : List Bool → ℕ → Bool
-standsIn broken i = not (readAt 16 broken i false)
-
-abbrev pub barsIn : Plan → List RuleLine → List Standing → List Bool → ℕ → ℕ → Bool
-barsIn p rules standings broken e i = standsIn broken i && bars p (fatesOf standings) (ruleIn rules i) e
-
-abbrev pub forbidsIn : Plan → List RuleLine → List Standing → List Bool → ℕ → ℕ → Bool
-forbidsIn p rules standings broken e i = standsIn broken i && forbids p (fatesOf standings) (ruleIn rules i) e
-
-abbrev pub owesIn : Plan → List RuleLine → List Standing → List Bool → ℕ → Bool
-owesIn p rules standings broken i = standsIn broken i && owes p (fatesOf standings) (ruleIn rules i)
-
--- readiness first, then the rules
-module _ (s : State) (e : ℕ) (is : Bool) (same : is ≡ ready (s .plan) (fateOf s) e) where
-  pub may-ready : (denied : Bool) → denied ≡ forbidden s e → is ≡ true → not denied ≡ mayDo s e
-  unfolding mayDo ready
-  may-ready denied f t = rw (f, sym same ∙ t)
-
-  pub may-not : is ≡ false → false ≡ mayDo s e
-  unfolding mayDo ready
-  may-not t = rw (sym same ∙ t)
+use Rattle.plan.specs.Plans.{eventCount}
+use Rattle.plan.specs.Rules.{ready}
+use Rattle.plan.proofs.Tests.{and-left, and-right, and-both, clash}
+use Rattle.orders.proofs.Grounds.{refuted}
+use Rattle.orders.proofs.Lowest.{lowest-some, lowest-none, lowest-alike}
+use Rattle.orders.proofs.Taking.{less-in, less-stays, none-nothing, some-left, step-ends, step-full, step-stuck, step-takes}
+use Rattle.members.proofs.Bits.{in-zero, in-below}
+use Rattle.scheduler.proofs.LeastSets.{fates-one, no-fit-none, chosen-taken}
+use Rattle.scheduler.proofs.Searching.{chosen-short}
 
 -- an answer that has no order, and one that has, for each way in which code hands an order over
 module _ (f : Option (List ℕ) → Found) (no : f none .ok ≡ false) (yes : (o : List ℕ) → f (some o) .ok ≡ true) where
@@ -67,75 +53,6 @@ found-none i = answer-none (foundFrom i) refl (λ o. refl)
 found-some : (i : ℕ) (q : Option (List ℕ)) (r : Found) → r ≡ foundFrom i q → r .ok ≡ true → (o : List ℕ) × (q ≡ some o)
 unfolding foundFrom
 found-some i = answer-some (foundFrom i) refl (λ o. refl)
-
-guard-none : {A : Type 0} (b : Bool) → when {A = A} b none ≡ none
-guard-none true = refl
-guard-none false = refl
-
--- the first order of k + 1 events whose first event is c
-abbrev pub orderBy : ℕ → State → ℕ → Bool → ℕ → Option (List ℕ)
-orderBy k s e had c =
-    when (mayDo s c) (Option·map (λ o. c ∷ o) (orderOf every k (doOne s c) e (had || eqb c e)))
-
-module _ (s : State) (e : ℕ) (had : Bool) where
-  -- no place is left: the order ends here if it has e and no rule owes
-  module _ (at p : ℕ) (no-place : p ≡ 0) where
-    pub end-found : had ≡ true
-        → owing s ≡ false
-        → _≡_ {A = Found} (record { ok = true; events = replicate 6 0; len = at }) (foundFrom at (orderOf every p s e had))
-    unfolding orderOf foundFrom placed
-    end-found h o =
-        rw (no-place, h, o) (ap {B = Found} (λ (n : ℕ). record { ok = true; events = replicate 6 0; len = n }) (omega arith))
-
-    pub end-owing : owing s ≡ true → noOrder ≡ foundFrom at (orderOf every p s e had)
-    unfolding orderOf foundFrom
-    end-owing o = rw (no-place, o, and-false)
-
-    pub end-without : had ≡ false → noOrder ≡ foundFrom at (orderOf every p s e had)
-    unfolding orderOf foundFrom
-    end-without h = rw (no-place, h)
-
-  -- the loop over the first event: what is left of it from x on
-  abbrev pub Left : ℕ → ℕ → Type 0
-  Left p x = orderOf every p s e had ≡ firstOf (eventCount (s .plan) - x) x (orderBy (p - 1) s e had)
-
-  pub left-zero : (p : ℕ) → (p ≡ 0 → ⊥) → Left p 0
-  unfolding orderOf
-  left-zero zero ne = absurd (ne refl)
-  left-zero (suc k) ne = rw (sub-zero, sub-one)
-
-  module _ (p : ℕ) where
-    pub left-none : (at x : ℕ) → Left p x → eventCount (s .plan) ≤ x → noOrder ≡ foundFrom at (orderOf every p s e had)
-    unfolding foundFrom
-    left-none at x before ge = ap (foundFrom at) (sym (before ∙ first-end _ x _ ge))
-
-    abbrev after : ℕ → Option (List ℕ)
-    after x = orderOf every (p - 1) (doOne s x) e (had || eqb x e)
-
-    module _ (x : ℕ) (lt : x < eventCount (s .plan)) (before : Left p x) where
-      pub skip : mayDo s x ≡ false → Left p (x + 1)
-      skip f = before ∙ first-next _ x _ lt (rw f)
-
-      module _ (at : ℕ) (r : Found) (same : r ≡ foundFrom (at + 1) (after x)) where
-        pub miss : r .ok ≡ false → Left p (x + 1)
-        miss f = before ∙ first-next _ x _ lt (rw (found-none (at + 1) (after x) r same f) (guard-none (mayDo s x)))
-
-        abbrev Put : Type 0
-        Put =
-            _≡_ {A = Found}
-            (record { ok = r .ok; events = set (r .events) at x; len = r .len })
-            (foundFrom at (orderOf every p s e had))
-
-        hit-with : (o : List ℕ) → after x ≡ some o → mayDo s x ≡ true → Put
-        unfolding foundFrom placed
-        hit-with o q m =
-            let whole : orderOf every p s e had ≡ some (x ∷ o) = before ∙ first-here _ x _ (x ∷ o) lt (rw (m, q)) in
-            ap (λ (w : Found). record { ok = w .ok; events = set (w .events) at x; len = w .len }) (same ∙ ap (foundFrom (at + 1)) q)
-            ∙ ap {B = Found} (λ (n : ℕ). record { ok = true; events = set (placed (at + 1) o) at x; len = n }) (omega arith)
-            ∙ ap (foundFrom at) (sym whole)
-
-        pub hit : mayDo s x ≡ true → r .ok ≡ true → Put
-        hit m t = let f = found-some (at + 1) (after x) r same t in hit-with (f .0) (f .1) m
 
 -- an order of at most six events: in the search's array it stands as it is handed over, whole at the front
 pub record Fits (o : List ℕ) : Type 0 where
@@ -159,26 +76,161 @@ found-all o h =
     let len : 0 + length o ≡ length o = omega arith in
     rw (fits o h .placed-whole, len)
 
--- the loop over the lengths: what is left of it from k on
-module _ (s : State) (e : ℕ) where
-  abbrev pub Longer : ℕ → Type 0
-  Longer k = chosen s e ≡ firstOf (7 - k) k (λ j. orderOf every j s e false)
+-- the lowest event of a set, as code hands it over
+module _ (t : ℕ → Bool) (x : ℕ) (same : x ≡ orSixteen (lowest 16 t)) where
+  pub lowest-sixteen : x ≡ 16 → lowest 16 t ≡ none
+  lowest-sixteen q = go (lowest 16 t) refl
+    where
+      go : (o : Option ℕ) → lowest 16 t ≡ o → lowest 16 t ≡ none
+      go none e = e
+      go (some y) e = absurd (omega (arith, lowest-some 16 t y e .below, same ∙ ap orSixteen e))
 
-  pub longer-one : Longer 1
-  unfolding chosen
-  longer-one = refl
+  pub lowest-below : x < 16 → lowest 16 t ≡ some x
+  lowest-below lt = go (lowest 16 t) refl
+    where
+      go : (o : Option ℕ) → lowest 16 t ≡ o → lowest 16 t ≡ some x
+      go none e = absurd (omega (arith, same ∙ ap orSixteen e))
+      go (some y) e = e ∙ ap {B = Option ℕ} some (sym (same ∙ ap orSixteen e))
 
-  pub longer-none : (k : ℕ) → Longer k → 7 ≤ k → noOrder ≡ foundOrder (chosen s e)
+  pub lowest-past : (x < 16 → ⊥) → lowest 16 t ≡ none
+  lowest-past n = go (lowest 16 t) refl
+    where
+      go : (o : Option ℕ) → lowest 16 t ≡ o → lowest 16 t ≡ none
+      go none e = e
+      go (some y) e = absurd (n (omega (arith, lowest-some 16 t y e .below, same ∙ ap orSixteen e)))
+
+-- a set without one event
+pub after-less : (left x : ℕ)
+    → x < 16
+    → (one after : ℕ)
+    → ((y : ℕ) → inSet one y ≡ ((eqb y x && (ltb x 16 && true)) || inSet 0 y))
+    → ((y : ℕ) → inSet after y ≡ (inSet left y && not (inSet one y)))
+    → inSet after ≡ less (inSet left) x
+after-less left x lt one after is-one is-after =
+    fun-ext (λ y. is-after y ∙ ap (λ (v : Bool). inSet left y && not v) (is-one y ∙ go y (eqb y x)))
+  where
+    go : (y : ℕ) (v : Bool) → ((v && (ltb x 16 && true)) || inSet 0 y) ≡ v
+    go y true = rw (lt-ltb x 16 lt)
+    go y false = in-zero y
+
+-- the search from a state
+module _ (s : State) (left at places : ℕ) where
+  abbrev pub steps : Option (List ℕ)
+  steps = stepwise (s .plan) (stands s) places (fateOf s) (inSet left)
+
+  -- nothing is left: the order ends here
+  pub search-end : (x : ℕ)
+      → x ≡ orSixteen (lowest 16 (inSet left))
+      → x ≡ 16
+      → _≡_ {A = Found} (record { ok = true; events = replicate 6 0; len = at }) (foundFrom at steps)
+  unfolding foundFrom placed
+  search-end x same q =
+      let empty = none-nothing (inSet left) (lowest-none 16 (inSet left) (lowest-sixteen (inSet left) x same q)) in
+      rw (step-ends (s .plan) (stands s) places (fateOf s) (inSet left) empty) (ap {B = Found} (λ (n : ℕ). record { ok = true; events = replicate 6 0; len = n }) (omega arith))
+
+  module _ (x : ℕ) (same : x ≡ orSixteen (lowest 16 (inSet left))) (ne : x ≡ 16 → ⊥) where
+    some-event : (o : Option ℕ) → lowest 16 (inSet left) ≡ o → nothing (inSet left) ≡ false
+    some-event none e = absurd (ne (same ∙ ap orSixteen e))
+    some-event (some y) e = let lo = lowest-some 16 (inSet left) y e in some-left (inSet left) y (lo .below) (lo .passes)
+
+    pub search-more : nothing (inSet left) ≡ false
+    search-more = some-event (lowest 16 (inSet left)) refl
+
+  -- some event is left and no place
+  pub search-full : nothing (inSet left) ≡ false → places ≡ 0 → noOrder ≡ foundFrom at steps
+  unfolding foundFrom
+  search-full h q =
+      rw (q, step-full (s .plan) (stands s) (fateOf s) (inSet left) h)
+
+  -- the next event
+  module _ (b d : ℕ) (is-blocked : (x : ℕ) → x < 16 → inSet b x ≡ blocked (s .plan) (stands s) (fateOf s) (inSet left) x) (rest : (x : ℕ) → inSet d x ≡ (inSet left x && not (inSet b x))) where
+    next-same : next (s .plan) (stands s) (fateOf s) (inSet left) ≡ lowest 16 (inSet d)
+    unfolding next
+    next-same = sym (lowest-alike 16 (inSet d) _ (λ x lt. rest x ∙ ap (λ (v : Bool). inSet left x && not v) (is-blocked x lt)))
+
+    module _ (more : nothing (inSet left) ≡ false) (some-place : places ≡ 0 → ⊥) (x : ℕ) (same : x ≡ orSixteen (lowest 16 (inSet d))) where
+      -- every event that is left is blocked
+      pub search-stuck : (x < 16 → ⊥) → noOrder ≡ foundFrom at steps
+      unfolding foundFrom
+      search-stuck n = ap (foundFrom at) (sym (go places refl))
+        where
+          go : (k : ℕ) → places ≡ k → stepwise (s .plan) (stands s) places (fateOf s) (inSet left) ≡ none
+          go zero q = absurd (some-place q)
+          go (suc k) q = rw q (step-stuck (s .plan) (stands s) k (fateOf s) (inSet left) more (next-same ∙ lowest-past (inSet d) x same n))
+
+      module _ (z : Sized s) (lt : x < 16) (one after : ℕ) (is-one : (y : ℕ) → inSet one y ≡ ((eqb y x && (ltb x 16 && true)) || inSet 0 y)) (is-after : (y : ℕ) → inSet after y ≡ (inSet left y && not (inSet one y))) where
+        abbrev later : Option (List ℕ)
+        later = stepwise (s .plan) (stands s) (places - 1) (doing (fateOf s) x) (less (inSet left) x)
+
+        -- the search from the state after it
+        later-same : stepwise ((doOne s x) .plan) (stands (doOne s x)) (places - 1) (fateOf (doOne s x)) (inSet after) ≡ later
+        unfolding settleAs
+        later-same = rw (fates-one s x z lt, after-less left x lt one after is-one is-after)
+
+        steps-take : steps ≡ Option·map (λ (o : List ℕ). x ∷ o) later
+        steps-take = go places refl
+          where
+            go : (k : ℕ) → places ≡ k → steps ≡ Option·map (λ (o : List ℕ). x ∷ o) later
+            go zero q = absurd (some-place q)
+            go (suc k) q = rw (q, sub-one) (step-takes (s .plan) (stands s) k (fateOf s) (inSet left) x more (next-same ∙ lowest-below (inSet d) x same lt))
+
+        module _ (r : Found) (found : r ≡ foundFrom (at + 1) (stepwise ((doOne s x) .plan) (stands (doOne s x)) (places - 1) (fateOf (doOne s x)) (inSet after))) where
+          found-later : r ≡ foundFrom (at + 1) later
+          found-later = found ∙ ap (foundFrom (at + 1)) later-same
+
+          pub search-miss : r .ok ≡ false → noOrder ≡ foundFrom at steps
+          unfolding foundFrom
+          search-miss f = ap (foundFrom at) (sym (steps-take ∙ ap (Option·map (λ (o : List ℕ). x ∷ o)) (found-none (at + 1) later r found-later f)))
+
+          hit-with : (o : List ℕ) → later ≡ some o → _≡_ {A = Found} (record { ok = r .ok; events = set (r .events) at x; len = r .len }) (foundFrom at steps)
+          unfolding foundFrom placed
+          hit-with o q =
+              ap (λ (w : Found). record { ok = w .ok; events = set (w .events) at x; len = w .len }) (found-later ∙ ap (foundFrom (at + 1)) q)
+              ∙ ap {B = Found} (λ (n : ℕ). record { ok = true; events = set (placed (at + 1) o) at x; len = n }) (omega arith)
+              ∙ ap (foundFrom at) (sym (steps-take ∙ ap (Option·map (λ (u : List ℕ). x ∷ u)) q))
+
+          pub search-hit : r .ok ≡ true → _≡_ {A = Found} (record { ok = r .ok; events = set (r .events) at x; len = r .len }) (foundFrom at steps)
+          search-hit t = let f = found-some (at + 1) later r found-later t in hit-with (f .0) (f .1)
+
+-- the search among the members
+module _ (s : State) (z : Sized s) (e able : ℕ) (k : Hopeful s (inSet able)) (m : Members) (closes : Closes (s .plan) (stands s) (fateOf s) (inSet able) e m) where
+  pub members-none : m .ok ≡ false → noOrder ≡ foundOrder (chosen s e)
   unfolding foundOrder
-  longer-none k before ge = ap foundOrder (sym (before ∙ first-end 7 k _ ge))
+  members-none f = ap foundOrder (sym (no-fit-none s z e (inSet able) k (closes .none-fits f)))
 
-  module _ (k : ℕ) (lt : k < 7) (before : Longer k) (r : Found) (same : r ≡ foundFrom 0 (orderOf every k s e false)) where
-    pub longer-miss : r .ok ≡ false → Longer (k + 1)
-    longer-miss f = before ∙ first-next 7 k _ lt (found-none 0 _ r same f)
+  pub members-found : m .ok ≡ true → (r : Found) → r ≡ foundFrom 0 (steps s (m .set) 0 6) → r ≡ foundOrder (chosen s e)
+  members-found t r same = same ∙ ap (foundFrom 0) (sym taken) ∙ go (chosen s e) refl
+    where
+      taken : chosen s e ≡ steps s (m .set) 0 6
+      taken = chosen-taken s z e (inSet able) k (inSet (m .set)) (closes .found t)
 
-    pub longer-hit : r .ok ≡ true → r ≡ foundOrder (chosen s e)
-    longer-hit t =
-        let f = found-some 0 _ r same t in
-        let o = f .0 in
-        let long = order-some every k s e false o (f .1) .0 .long in
-        same ∙ ap (foundFrom 0) (f .1) ∙ found-all o (omega arith) ∙ ap foundOrder (sym (before ∙ first-here 7 k _ o lt (f .1)))
+      go : (o : Option (List ℕ)) → chosen s e ≡ o → foundFrom 0 (chosen s e) ≡ foundOrder (chosen s e)
+      go none q = rw q (unfold foundFrom foundOrder in refl)
+      go (some o) q = rw q (found-all o (chosen-short s e o q))
+
+-- what a view says of the events at hand
+pub hopeful-all : (s : State) (v : View) → Shows (s .plan) (fateOf s) v → Hopeful s (inSet (v .able))
+hopeful-all s v w = record {
+  hand = λ x h.
+      let t = sym (w .able x) ∙ h in
+      (ltb-true x (eventCount (s .plan)) (and-left (ltb x (eventCount (s .plan))) (ready (s .plan) (fateOf s) x) t), and-right (ltb x (eventCount (s .plan))) (ready (s .plan) (fateOf s) x) t);
+  others = λ x lt r n. absurd (clash (w .able x ∙ and-both (ltb x (eventCount (s .plan))) (ready (s .plan) (fateOf s) x) (lt-ltb x (eventCount (s .plan)) lt) r) n);
+}
+
+-- an event that has no order is remembered
+pub hopeful-less : (s : State) (able one after e : ℕ)
+    → e < 16
+    → ((y : ℕ) → inSet one y ≡ ((eqb y e && (ltb e 16 && true)) || inSet 0 y))
+    → ((y : ℕ) → inSet after y ≡ (inSet able y && not (inSet one y)))
+    → Hopeful s (inSet able)
+    → chosen s e ≡ none
+    → Hopeful s (inSet after)
+hopeful-less s able one after e lt is-one is-after k h =
+    let same = after-less able e lt one after is-one is-after in
+    subst (Hopeful s) (sym same) (record {
+      hand = λ x t. k .hand x (less-in (inSet able) e x t);
+      others = λ x d r n. elim (ℕ-discrete x e) [
+        | yes q ↦ subst (λ (v : ℕ). chosen s v ≡ none) (sym q) h
+        | no ne ↦ k .others x d r (refuted (inSet able x) (λ t. clash (less-stays (inSet able) e x t ne) n))
+      ];
+    })

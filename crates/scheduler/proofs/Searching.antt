@@ -16,7 +16,8 @@ use Rattle.scheduler.specs.State.{fateOf, Sized}
 use Rattle.plan.specs.Fates.{isOpen, isHeld, isSettled}
 use Rattle.scheduler.specs.Rules.{forbidden, owing}
 use Rattle.plan.specs.Rules.{ready}
-use Rattle.scheduler.specs.Orders.{doOne, mayDo, doAll, Runs, Different, Viable, Ahead, First, orderOf, chosen, someOrder, hasViable}
+use Rattle.scheduler.specs.Orders.{doOne, mayDo, doAll, Runs, Different, Viable, First, orderOf, chosen, someOrder, hasViable}
+use Rattle.orders.specs.Sequences.{Ahead}
 use Rattle.plan.proofs.Tests.{or-right-true, or-either, and-left, and-right, and-both, either, clash, any-some, any-found, first-none, first-some, when-none, when-some, some-none}
 use Rattle.scheduler.proofs.Laws.{plan-one, one-settled, settled-one, sized-one, fate-past}
 
@@ -35,15 +36,19 @@ ready-unsettled s c m = go (fateOf s c) (and-left (ready (s .plan) (fateOf s) c)
 event-past : (p : Plan) (e : ℕ) → 16 ≤ e → eventAt p e ≡ blankEvent
 event-past p e ge = rw (le-ltb e 16 ge, eventAt)
 
-pub ready-bound : (s : State) (c : ℕ) → mayDo s c ≡ true → c < 16
-unfolding mayDo ready
-ready-bound s c m = elim (decLt c 16) [
+pub hand-bound : (s : State) (c : ℕ) → ready (s .plan) (fateOf s) c ≡ true → c < 16
+unfolding ready
+hand-bound s c m = elim (decLt c 16) [
   | yes lt ↦ lt
   | no ge ↦
       let is-open : fateOf s c ≡ Open = fate-past s c (omega arith) in
       let unforced : forcible (s .plan) c ≡ false = ap (λ (v : Event). holdsBit 1 (v .attributes)) (event-past (s .plan) c (omega arith)) in
-      absurd (clash (and-left (ready (s .plan) (fateOf s) c) (not (forbidden s c)) m) (ap (λ (x : Fate). isHeld x || (isOpen x && forcible (s .plan) c)) is-open ∙ unforced))
+      absurd (clash m (ap (λ (x : Fate). isHeld x || (isOpen x && forcible (s .plan) c)) is-open ∙ unforced))
 ]
+
+pub ready-bound : (s : State) (c : ℕ) → mayDo s c ≡ true → c < 16
+unfolding mayDo
+ready-bound s c m = hand-bound s c (and-left (ready (s .plan) (fateOf s) c) (not (forbidden s c)) m)
 
 -- doing an order keeps the plan and the lengths
 pub plan-doAll : (s : State) (o : List ℕ) → (doAll s o) .plan ≡ s .plan
@@ -217,7 +222,7 @@ module _ (candidate : ℕ → Bool) where
       ])
 
 -- a viable order as a run that the search could find
-reaches : {s : State} {e : ℕ} {o : List ℕ} → Viable s e o → Reaches (length o) s e false o
+pub reaches : {s : State} {e : ℕ} {o : List ℕ} → Viable s e o → Reaches (length o) s e false o
 reaches {s} {e} {o} v = record { long = refl; runs = v .runs; has-e = mem-has e false o (v .contains) }
 
 abbrev pub every : ℕ → Bool
@@ -250,8 +255,15 @@ chosen-first s e z o h =
       ];
     }
 
+-- it has at most six events
+pub chosen-short : (s : State) (e : ℕ) (o : List ℕ) → chosen s e ≡ some o → length o ≤ 6
+unfolding chosen
+chosen-short s e o h =
+    let f = first-some 6 1 _ o h in
+    omega (arith, order-some every (f .place) s e false o (f .gives) .0 .long, f .upto)
+
 -- two orders of one length, neither ahead of the other, are one
-ahead-both : (o q : List ℕ) → length o ≡ length q → Ahead o q → Ahead q o → o ≡ q
+pub ahead-both : (o q : List ℕ) → length o ≡ length q → Ahead o q → Ahead q o → o ≡ q
 ahead-both [] [] n a b = refl
 ahead-both [] (d ∷ q) n a b = absurd b
 ahead-both (c ∷ o) [] n a b = absurd a

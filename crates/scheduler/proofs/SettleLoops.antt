@@ -2,34 +2,38 @@
 use Prim.Native.Nat.{ℕ, zero, suc, _+_, _-_, _≤_, _<_}
 use native.Mathlib.Numerals.{add-one, sub-one}
 use native.Mathlib.Omega.{arith}
-use mathlib.Core.Bool.{Bool, true, false, _&&_}
+use native.Mathlib.Decide.{decLt}
+use borrow.Author.Tests.{lt-ltb, le-ltb}
+use mathlib.Core.Bool.{Bool, true, false, _&&_, _||_, and-false, or-false, and-assoc}
 use mathlib.Core.List.{List, [], _∷_}
 use mathlib.Core.Option.{Option, none, some, Option·map}
-use mathlib.Core.Path.{_≡_, refl, sym, _∙_, ap}
+use mathlib.Core.Path.{_≡_, refl, sym, _∙_, ap, fun-ext}
+use lib.Dec.{eqb, ltb}
 use lib.ListN.{length, getD, take, drop, drop-of-length-le}
 use lib.Seq.{drop-cons, length-take-le, take-all}
 use Rattle.scheduler.specs.declared.order.Found.{Found}
 use Rattle.scheduler.specs.declared.settle.Turned.{Turned}
-use Rattle.scheduler.specs.Prelude.{Fate, Refused, State}
-use Rattle.plan.specs.Base.{firstOf, when}
+use Rattle.scheduler.specs.Prelude.{Fate, Refused, Rule, Order, Need, Conditional, State}
+use Rattle.plan.specs.Base.{anyBelow, firstOf, when, lowest}
+use Rattle.plan.specs.Plans.{eventCount, ruleCount, ruleAt}
+use Rattle.plan.specs.Rules.{bars}
+use Rattle.orders.specs.Stepwise.{follows, blocked}
+use Rattle.members.specs.declared.view.View.{View}
+use Rattle.members.specs.Sets.{inSet, orSixteen, Shows}
 use Rattle.scheduler.specs.Orders.{doOne, doAll, chosen, foundOrder}
 use Rattle.scheduler.specs.State.{fateOf, settleAs}
 use Rattle.plan.specs.Fates.{isHeld}
-use Rattle.scheduler.specs.Rules.{barred}
+use Rattle.scheduler.specs.Rules.{stands, barred}
 use Rattle.scheduler.specs.Calls.{toRefuse, toDo, settleOnce, settleUpTo, settle, refuseHeld}
 use Rattle.scheduler.specs.Internal.Turned.{turnOf}
 use Rattle.plan.proofs.Tests.{clash, first-some, some-none}
 use Rattle.scheduler.proofs.Branches.{upTo-none, upTo-some, lowestHeld, refuse-none, refuse-some}
 use Rattle.plan.proofs.Loops.{Rest, first-here, first-end}
-use Rattle.scheduler.proofs.Searching.{order-some}
-use Rattle.scheduler.proofs.SearchLoops.{fits, answer-some, answer-none}
-
--- the chosen order has at most six events
-chosen-short : (s : State) (e : ℕ) (o : List ℕ) → chosen s e ≡ some o → length o ≤ 6
-unfolding chosen
-chosen-short s e o h =
-    let f = first-some 6 1 _ o h in
-    omega (arith, order-some (λ c. true) (f .place) s e false o (f .gives) .0 .long, f .upto)
+use Rattle.scheduler.proofs.Searching.{chosen-short}
+use Rattle.scheduler.proofs.SearchLoops.{fits, answer-some, answer-none, lowest-sixteen, lowest-below, lowest-past}
+use Rattle.scheduler.proofs.Laws.{fate-past}
+use Rattle.orders.proofs.Lowest.{first-nowhere, lowest-none, lowest-bounds}
+use Rattle.members.proofs.Bits.{in-zero}
 
 -- where a search found an order, that is the chosen one, and it stands at the front of the array
 pub order-found : (s : State) (e : ℕ) (r : Found)
@@ -93,19 +97,76 @@ pub held-told : (s : State) (e : ℕ) (x : Fate) (b t : Bool)
     → isHeld (fateOf s e) ≡ t
 held-told s e x b t f h a = ap isHeld (sym f) ∙ sym h ∙ a
 
--- an event that is to be refused: it is held and barred
-module _ (s : State) (e : ℕ) where
-  abbrev pub refusing : Option ℕ
-  refusing = when (isHeld (fateOf s e) && barred s e) (some e)
+-- what a view says of a declared event's being held
+pub held-seen : (s : State) (v : View)
+    → Shows (s .plan) (fateOf s) v
+    → (e : ℕ)
+    → e < eventCount (s .plan)
+    → (b t : Bool)
+    → b ≡ inSet (v .held) e
+    → b ≡ t
+    → isHeld (fateOf s e) ≡ t
+held-seen s v w e lt b t is h =
+    sym (w .held e ∙ ap (λ (x : Bool). x && isHeld (fateOf s e)) (lt-ltb e (eventCount (s .plan)) lt)) ∙ sym is ∙ h
 
-  pub refusing-some : isHeld (fateOf s e) ≡ true → barred s e ≡ true → refusing ≡ some e
-  refusing-some h b = rw (h, b)
+-- the events that a view shows held and a pass over the rules barred: the lowest is the one to refuse
+module _ (s : State) (v : View) (w : Shows (s .plan) (fateOf s) v) where
+  no-follow : (r : Rule) (x : ℕ) → follows (s .plan) (inSet 0) r x ≡ false
+  unfolding follows
+  no-follow (Order a b) x = rw (in-zero a) (and-false (eqb x b))
+  no-follow (Need a b) x = refl
+  no-follow (Conditional a b c) x = refl
 
-  pub refusing-free : isHeld (fateOf s e) ≡ true → barred s e ≡ false → refusing ≡ none
-  refusing-free h b = rw (h, b)
+  none-left : (x : ℕ) → blocked (s .plan) (stands s) (fateOf s) (inSet 0) x ≡ barred s x
+  unfolding blocked barred
+  none-left x = ap (anyBelow (ruleCount (s .plan))) (fun-ext (λ i. ap (λ (t : Bool). stands s i && t) (rw (no-follow (ruleAt (s .plan) i) x) (or-false (bars (s .plan) (fateOf s) (ruleAt (s .plan) i) x)))))
 
-  pub refusing-none : isHeld (fateOf s e) ≡ false → refusing ≡ none
-  refusing-none h = rw h
+  held-past : (x : ℕ) → 16 ≤ x → isHeld (fateOf s x) ≡ false
+  held-past x ge = ap isHeld (fate-past s x ge)
+
+  module _ (b d : ℕ) (is-barred : (x : ℕ) → x < 16 → inSet b x ≡ blocked (s .plan) (stands s) (fateOf s) (inSet 0) x) (both : (x : ℕ) → inSet d x ≡ (inSet (v .held) x && inSet b x)) where
+    held-barred : (x : ℕ) → (ltb x (eventCount (s .plan)) && (isHeld (fateOf s x) && barred s x)) ≡ (ltb x 16 && inSet d x)
+    held-barred x = elim (decLt x 16) [
+      | yes lt ↦ sym (rw (lt-ltb x 16 lt, both x, w .held x, is-barred x lt, none-left x) (and-assoc (ltb x (eventCount (s .plan))) (isHeld (fateOf s x)) (barred s x)))
+      | no ge ↦ rw (le-ltb x 16 (omega arith), held-past x (omega arith)) (and-false (ltb x (eventCount (s .plan))))
+    ]
+
+    refuse-same : toRefuse s ≡ lowest 16 (inSet d)
+    unfolding toRefuse
+    refuse-same = lowest-bounds (eventCount (s .plan)) 16 (λ e. isHeld (fateOf s e) && barred s e) (inSet d) held-barred
+
+    module _ (e : ℕ) (same : e ≡ orSixteen (lowest 16 (inSet d))) where
+      pub once-refuses : e < 16 → record { moved = true; state = settleAs Refused s e } ≡ turnOf s (settleOnce s)
+      unfolding turnOf settleOnce
+      once-refuses lt = rw (refuse-same ∙ lowest-below (inSet d) e same lt, settleOnce)
+
+      pub once-does : (e < 16 → ⊥) → turnOf s (Option·map (doAll s) (toDo s)) ≡ turnOf s (settleOnce s)
+      unfolding settleOnce
+      once-does n = rw (refuse-same ∙ lowest-past (inSet d) e same n, settleOnce)
+
+  -- where nothing is held there is no turn to make
+  module _ (e : ℕ) (same : e ≡ orSixteen (lowest 16 (inSet (v .held)))) (q : e ≡ 16) where
+    unheld : (x : ℕ) → x < eventCount (s .plan) → isHeld (fateOf s x) ≡ false
+    unheld x lt = elim (decLt x 16) [
+      | yes k ↦ held-seen s v w x lt (inSet (v .held) x) false refl (lowest-none 16 (inSet (v .held)) (lowest-sixteen (inSet (v .held)) e same q) x k)
+      | no ge ↦ held-past x (omega arith)
+    ]
+
+    none-refused : toRefuse s ≡ none
+    unfolding toRefuse lowest
+    none-refused = first-nowhere (eventCount (s .plan)) 0 _ (λ x lo hi. rw (unheld x (omega arith)))
+
+    none-done : toDo s ≡ none
+    unfolding toDo
+    none-done = first-nowhere (eventCount (s .plan)) 0 _ (λ x lo hi. rw (unheld x (omega arith)))
+
+    none-turned : settleOnce s ≡ none
+    unfolding settleOnce
+    none-turned = rw (none-refused, none-done, settleOnce)
+
+    pub unheld-rests : (n : ℕ) → 0 < n → settleUpTo n s ≡ s
+    unheld-rests zero lt = absurd (omega arith)
+    unheld-rests (suc n) lt = upTo-none n s none-turned
 
 -- an event that is to be refused in winding up: it is held
 module _ (s : State) (e : ℕ) where
@@ -144,35 +205,6 @@ module _ (s : State) where
   unfolding turnOf
   turned-none none r same f = refl
   turned-none (some u) r same f = absurd (clash (ap (λ (w : Turned). w .moved) same) f)
-
--- a turn of settling refuses an event, or does an order where there is none to refuse
-module _ (s : State) where
-  refuse-turn : (q : Option ℕ)
-      → toRefuse s ≡ q
-      → (r : Turned)
-      → r ≡ turnOf s (Option·map (settleAs Refused s) q)
-      → r .moved ≡ true
-      → r ≡ turnOf s (settleOnce s)
-  unfolding settleOnce
-  refuse-turn none is r same t = absurd (some-none (sym (turned-some s none r same t)))
-  refuse-turn (some e) is r same t = same ∙ ap (turnOf s) (rw (is, settleOnce))
-
-  do-turn : (q : Option ℕ)
-      → toRefuse s ≡ q
-      → (r : Turned)
-      → r ≡ turnOf s (Option·map (settleAs Refused s) q)
-      → r .moved ≡ false
-      → Option·map (doAll s) (toDo s) ≡ settleOnce s
-  unfolding settleOnce
-  do-turn none is r same f = rw (is, settleOnce)
-  do-turn (some e) is r same f = absurd (some-none (turned-none s (some (settleAs Refused s e)) r same f))
-
-  module _ (r : Turned) (same : r ≡ turnOf s (Option·map (settleAs Refused s) (toRefuse s))) where
-    pub once-refuses : r .moved ≡ true → r ≡ turnOf s (settleOnce s)
-    once-refuses = refuse-turn (toRefuse s) refl r same
-
-    pub once-does : r .moved ≡ false → turnOf s (Option·map (doAll s) (toDo s)) ≡ turnOf s (settleOnce s)
-    once-does f = ap (turnOf s) (do-turn (toRefuse s) refl r same f)
 
 -- a loop of turns: none is left to make, or one is made
 module _ (s : State) (r : Turned) (same : r ≡ turnOf s (settleOnce s)) where

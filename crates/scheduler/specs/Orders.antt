@@ -3,6 +3,7 @@ use Rattle.scheduler.specs.Prelude.{ℕ, zero, suc, _≤_, _<_, Bool, tr
 use Rattle.plan.specs.Base.{firstOf, when, anyBelow, tabulate}
 use Rattle.plan.specs.Plans.{eventCount}
 use Rattle.plan.specs.Rules.{ready}
+use Rattle.orders.specs.Sequences.{Ahead}
 use Rattle.scheduler.specs.declared.order.Found.{Found}
 use Rattle.scheduler.specs.State.{fateOf, settleAs}
 use Rattle.scheduler.specs.Rules.{forbidden, owing}
@@ -36,12 +37,6 @@ pub record Viable (s : State) (e : ℕ) (o : List ℕ) : Type 0 where
   pub short : length o ≤ 6
   pub different : Different o
   pub runs : Runs s o
-
--- compared from the front, o comes before q or is q (7.5)
-abbrev pub Ahead : List ℕ → List ℕ → Type 0
-Ahead [] q = Unit {0}
-Ahead (c ∷ o) [] = ⊥
-Ahead (c ∷ o) (d ∷ q) = (c < d) ⊎ ((c ≡ d) × Ahead o q)
 
 -- the chosen order: no viable one is shorter, and of those as long as it none comes before it (7.5)
 pub record First (s : State) (e : ℕ) (o : List ℕ) : Type 0 where

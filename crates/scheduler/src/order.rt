@@ -1,17 +1,23 @@
-// Which events may be done, and the chosen order.
+// The chosen order for an event. The events that have to be done with it are found first; an order takes always the lowest
+// of them that may come next, so nothing is tried twice.
 use super::state::State;
+use members::blocked::blocked_in;
+use members::closed::close_set;
+use members::set::common;
+use members::set::lowest_of;
+use members::set::with_if;
+use members::set::without;
+use members::view::View;
+use members::view::view_of;
 use plan::fate::Fate;
-use plan::mark::mark_in;
-use plan::rule::does_bar;
-use plan::rule::does_owe;
-use plan::rule::is_ready;
-use plan::rule::makes_wait;
-use plan::rule::rule_in;
 ghost use mathlib.Core.Path.{_≡_};
-ghost use mathlib.Core.Bool.{true, false};
-ghost use Prim.Native.Nat.{ℕ, _+_, _≤_};
-ghost use Rattle.scheduler.specs.Rules.{barred, forbidden, owing};
-ghost use Rattle.scheduler.specs.Orders.{mayDo, doOne, orderOf, chosen, foundOrder};
+ghost use Prim.Native.Nat.{_+_, _≤_};
+ghost use Rattle.members.specs.Sets.{inSet, Shows};
+ghost use Rattle.orders.specs.Stepwise.{stepwise};
+ghost use Rattle.scheduler.specs.State.{fateOf};
+ghost use Rattle.scheduler.specs.Rules.{stands};
+ghost use Rattle.scheduler.specs.Orders.{doOne, chosen, foundOrder};
+ghost use Rattle.scheduler.specs.Internal.Hopeful.{Hopeful};
 ghost use Rattle.scheduler.specs.Internal.Placed.{foundFrom};
 
 // What a search for an order finds: the order's events from the front, zeros after them, and its length.
@@ -22,98 +28,47 @@ pub struct Found {
 }
 
 impl State {
-    // The chosen order for the event: of lengths 1 to 6 the first that has one.
+    // The chosen order for the event.
     pub fn find_order(self, event: u8) -> Found
         ensures { λ r. ⌜ r ≡ foundOrder (chosen self event) ⌝ }
     {
-        let blank = [0; 6];
-        let mut k = 1;
-        while k < 7 {
-            let r = search(self, event, false, 0, k);
-            if r.ok {
-                return r;
-            }
-            k += 1;
-        }
-        Found {
-            ok: false,
-            events: blank,
-            len: 0,
-        }
+        let view = self.view();
+        self.find_among(view, view.able, event)
     }
 
-    // Does a rule forbid doing the event for good?
-    pub(crate) fn is_barred(self, event: u8) -> bool
-        ensures { λ r. ⌜ r ≡ barred self event ⌝ }
+    // The chosen order for the event, where events at hand that are not in `able` are known to have none. Its members
+    // are searched as held events where all of them are held, and else with those that have to be forced.
+    pub(crate) fn find_among(self, view: View, able: u32, event: u8) -> Found
+        requires { ⌜ (Shows (self .plan) (fateOf self) view × Hopeful self (inSet able)) ⌝ }
+        ensures { λ r. ⌜ r ≡ foundOrder (chosen self event) ⌝ }
     {
         let plan = self.plan;
         let rules = plan.rules;
-        let standings = self.standings;
         let broken = self.broken;
-        let n = plan.rule_count;
-        let mut i = 0;
-        while i < n {
-            if !mark_in(broken, i) & does_bar(standings, rule_in(rules, i), event) {
-                return true;
-            }
-            i += 1;
+        let members = close_set(rules, broken, plan.rule_count, view, able, event);
+        if !members.ok {
+            let blank = [0; 6];
+            return Found {
+                ok: false,
+                events: blank,
+                len: 0,
+            };
         }
-        false
+        let held = common(members.set, view.held);
+        if held == members.set {
+            return search(self, held, 0, 6);
+        }
+        search(self, members.set, 0, 6)
     }
 
-    // Does a rule forbid doing the event, for good or for now?
-    pub(crate) fn is_forbidden(self, event: u8) -> bool
-        ensures { λ r. ⌜ r ≡ forbidden self event ⌝ }
-    {
-        let plan = self.plan;
-        let rules = plan.rules;
-        let events = plan.events;
-        let standings = self.standings;
-        let broken = self.broken;
-        let n = plan.rule_count;
-        let mut i = 0;
-        while i < n {
-            let rule = rule_in(rules, i);
-            if !mark_in(broken, i)
-                & (does_bar(standings, rule, event) | makes_wait(events, standings, rule, event))
-            {
-                return true;
-            }
-            i += 1;
-        }
-        false
-    }
-
-    // Does a rule owe?
-    pub(crate) fn is_owing(self) -> bool
-        ensures { λ r. ⌜ r ≡ owing self ⌝ }
-    {
-        let plan = self.plan;
-        let rules = plan.rules;
-        let standings = self.standings;
-        let broken = self.broken;
-        let n = plan.rule_count;
-        let mut i = 0;
-        while i < n {
-            if !mark_in(broken, i) & does_owe(standings, rule_in(rules, i)) {
-                return true;
-            }
-            i += 1;
-        }
-        false
-    }
-
-    // May the event be done now as part of an order?
-    pub(crate) fn may_do(self, event: u8) -> bool
-        ensures { λ r. ⌜ r ≡ mayDo self event ⌝ }
+    // What a search asks of the state again and again, as sets.
+    pub(crate) fn view(self) -> View
+        ensures { λ r. ⌜ Shows (self .plan) (fateOf self) r ⌝ }
     {
         let plan = self.plan;
         let events = plan.events;
         let standings = self.standings;
-        if is_ready(events, standings, event) {
-            return !self.is_forbidden(event);
-        }
-        false
+        view_of(events, plan.event_count, standings)
     }
 
     // One event of an order done.
@@ -124,44 +79,45 @@ impl State {
     }
 }
 
-// The first order of so many events, compared from the front, that contains the event (or had it already) and after
-// which no rule owes. It goes on an order of `at` events: its own stand at `at` and after, and the length counts
-// both.
-fn search(s: State, event: u8, had: bool, at: u8, places: u8) -> Found
+// The events that are left, always the lowest that no other of them has to come before; none if there is no such event,
+// or no place. It goes on an order of `at` events: its own stand at `at` and after, and the length counts both.
+fn search(s: State, left: u32, at: u8, places: u8) -> Found
     requires { ⌜ at + places ≤ 6 ⌝ }
-    ensures { λ r. ⌜ r ≡ foundFrom at (orderOf (λ (c : ℕ). true) places s event had) ⌝ }
+    ensures { λ r. ⌜ r ≡ foundFrom at (stepwise (s .plan) (stands s) places (fateOf s) (inSet left)) ⌝ }
 {
     let blank = [0; 6];
+    if lowest_of(left) == 16 {
+        return Found {
+            ok: true,
+            events: blank,
+            len: at,
+        };
+    }
     let none = Found {
         ok: false,
         events: blank,
         len: 0,
     };
     if places == 0 {
-        if had {
-            if !s.is_owing() {
-                return Found {
-                    ok: true,
-                    events: blank,
-                    len: at,
-                };
-            }
-        }
         return none;
     }
     let plan = s.plan;
-    let n = plan.event_count;
-    let mut x = 0;
-    while x < n {
-        if s.may_do(x) {
-            let r = search(s.do_one(x), event, had | (x == event), at + 1, places - 1);
-            if r.ok {
-                let mut q = r;
-                q.events[at as usize] = x;
-                return q;
-            }
+    let rules = plan.rules;
+    let broken = s.broken;
+    let blocked = blocked_in(rules, broken, plan.rule_count, s.view(), left);
+    let x = lowest_of(without(left, blocked));
+    if x < 16 {
+        let r = search(
+            s.do_one(x),
+            without(left, with_if(0, x, true)),
+            at + 1,
+            places - 1,
+        );
+        if r.ok {
+            let mut q = r;
+            q.events[at as usize] = x;
+            return q;
         }
-        x += 1;
     }
     none
 }

@@ -1,16 +1,21 @@
 // Settling.
 use super::order::Found;
 use super::state::State;
+use members::blocked::blocked_in;
+use members::set::common;
+use members::set::is_in;
+use members::set::lowest_of;
+use members::set::with_if;
+use members::set::without;
+use members::view::View;
 use plan::fate::Fate;
-use plan::fate::fate_in;
-use plan::fate::is_held;
 ghost use mathlib.Core.Path.{_≡_};
 ghost use mathlib.Core.Option.{Option·map};
 ghost use lib.ListN.{take};
-ghost use Rattle.scheduler.specs.Prelude.{Refused};
-ghost use Rattle.scheduler.specs.State.{settleAs};
+ghost use Rattle.members.specs.Sets.{Shows};
+ghost use Rattle.scheduler.specs.State.{fateOf};
 ghost use Rattle.scheduler.specs.Orders.{doAll};
-ghost use Rattle.scheduler.specs.Calls.{toRefuse, toDo, settleOnce, settle};
+ghost use Rattle.scheduler.specs.Calls.{toDo, settleOnce, settle};
 ghost use Rattle.scheduler.specs.Internal.Turned.{turnOf};
 
 // Whether there was a turn to make, and the state after it.
@@ -27,7 +32,11 @@ impl State {
         let mut next = self;
         let mut left: u8 = 16;
         while 0 < left {
-            let turned = next.settle_once();
+            let view = next.view();
+            if lowest_of(view.held) == 16 {
+                return next;
+            }
+            let turned = next.settle_once(view);
             if !turned.moved {
                 return next;
             }
@@ -53,48 +62,45 @@ impl State {
         next
     }
 
-    // Refuses the lowest held event that is barred.
-    fn refuse_barred(self) -> Turned
-        ensures { λ r. ⌜ r ≡ turnOf self (Option·map (settleAs Refused self) (toRefuse self)) ⌝ }
+    // One turn of settling: refuses the lowest held event that is barred, or does an order.
+    fn settle_once(self, view: View) -> Turned
+        requires { ⌜ Shows (self .plan) (fateOf self) view ⌝ }
+        ensures { λ r. ⌜ r ≡ turnOf self (settleOnce self) ⌝ }
     {
         let plan = self.plan;
-        let standings = self.standings;
-        let n = plan.event_count;
-        let mut e: u8 = 0;
-        while e < n {
-            if is_held(fate_in(standings, e)) {
-                if self.is_barred(e) {
-                    return Turned {
-                        moved: true,
-                        state: self.settle_as(Fate::Refused, e),
-                    };
-                }
-            }
-            e += 1;
+        let rules = plan.rules;
+        let broken = self.broken;
+        let barred = blocked_in(rules, broken, plan.rule_count, view, 0);
+        let e = lowest_of(common(view.held, barred));
+        if e < 16 {
+            return Turned {
+                moved: true,
+                state: self.settle_as(Fate::Refused, e),
+            };
         }
-        Turned {
-            moved: false,
-            state: self,
-        }
+        self.do_chosen(view)
     }
 
-    // Does the chosen order of the lowest held event that has one.
-    fn do_chosen(self) -> Turned
+    // Does the chosen order of the lowest held event that has one. An event that has none is in no order for another, so
+    // it counts no more as able in this turn.
+    fn do_chosen(self, view: View) -> Turned
+        requires { ⌜ Shows (self .plan) (fateOf self) view ⌝ }
         ensures { λ r. ⌜ r ≡ turnOf self (Option·map (doAll self) (toDo self)) ⌝ }
     {
         let plan = self.plan;
-        let standings = self.standings;
         let n = plan.event_count;
+        let mut able = view.able;
         let mut e: u8 = 0;
         while e < n {
-            if is_held(fate_in(standings, e)) {
-                let found = self.find_order(e);
+            if is_in(view.held, e) {
+                let found = self.find_among(view, able, e);
                 if found.ok {
                     return Turned {
                         moved: true,
                         state: self.do_order(found),
                     };
                 }
+                able = without(able, with_if(0, e, true));
             }
             e += 1;
         }
@@ -102,16 +108,5 @@ impl State {
             moved: false,
             state: self,
         }
-    }
-
-    // One turn of settling.
-    fn settle_once(self) -> Turned
-        ensures { λ r. ⌜ r ≡ turnOf self (settleOnce self) ⌝ }
-    {
-        let refusal = self.refuse_barred();
-        if refusal.moved {
-            return refusal;
-        }
-        self.do_chosen()
     }
 }

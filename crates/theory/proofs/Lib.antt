@@ -10,5 +10,6 @@ pub mod Submission
 pub mod InvariantCoherent
 pub mod Coherence
 pub mod Observation
+pub mod HeldFirst
 pub mod Demands
 pub mod Worthless

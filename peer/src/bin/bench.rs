@@ -1,17 +1,19 @@
 //! Times the library against the peer and prints one line for each workload.
 //!
 //! The two take turns, and the times are medians of the rounds. A workload
-//! takes fewer pairs when the library needs long for them, so that the whole
-//! run ends in about a minute; the number of pairs is printed.
+//! takes fewer pairs when they need long, so that the whole run ends in about a
+//! minute; the number of pairs is printed. Active events are those that are
+//! delayable or forcible, so that an order could contain them.
 
 use peer::peer::calls::split_call;
-use peer::random::{full_list, large_sheet, long_list, small_sheet, Random, USUAL_ACTIVE};
+use peer::random::{full_list, hostile_list, hostile_sheet};
+use peer::random::{large_sheet, long_list, small_sheet, Random};
 use peer::{library, peer as second};
 use std::hint::black_box;
 use std::time::{Duration, Instant};
 
 const ROUNDS: usize = 9;
-/// A workload takes no more pairs once one pass of the library takes this long.
+/// A workload takes no more pairs once one pass of both takes this long.
 const PASS: Duration = Duration::from_millis(1000);
 const SEED: u64 = 3;
 
@@ -32,8 +34,20 @@ fn long(random: &mut Random) -> Pair {
 }
 
 fn large(random: &mut Random) -> Pair {
-    let made = large_sheet(random, USUAL_ACTIVE);
+    let made = large_sheet(random, 7);
     let list = full_list(random, &made);
+    (made.bytes, list)
+}
+
+fn wide(random: &mut Random) -> Pair {
+    let made = large_sheet(random, 16);
+    let list = full_list(random, &made);
+    (made.bytes, list)
+}
+
+fn hostile(random: &mut Random) -> Pair {
+    let made = hostile_sheet(random);
+    let list = hostile_list(random, &made);
     (made.bytes, list)
 }
 
@@ -55,7 +69,7 @@ fn fours(random: &mut Random) -> Pair {
     (sheet, list)
 }
 
-/// Pairs until there are enough of them or the library has used up its pass.
+/// Pairs until there are enough of them or the time of a pass is used up.
 fn prepare(make: fn(&mut Random) -> Pair, most: usize) -> Vec<Pair> {
     let mut random = Random::new(SEED);
     let mut pairs = Vec::new();
@@ -122,6 +136,8 @@ fn main() {
     measure("random lists, small sheets", small, 20_000);
     measure("long lists, 60000 calls", long, 40);
     measure("large sheets, 7 active events", large, 4_000);
+    measure("large sheets, 16 active events", wide, 4_000);
+    measure("rings, stars and the like", hostile, 4_000);
     measure("four records of kind 6", fours, 200);
     println!("times are for one call; ratio is library time / peer time");
 }

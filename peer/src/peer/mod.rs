@@ -1,8 +1,9 @@
 //! The second scheduler.
 //!
-//! It shares nothing with the proved library but document 01. Events are bits
+//! It shares nothing with the proved library but the documents. Events are bits
 //! of a 16-bit set, needs and conditionals are one form of rule, and the chosen
-//! order comes from a breadth-first search over sets of done events.
+//! order comes from breadth-first walks over sets of done events, held events
+//! first.
 
 pub mod calls;
 pub mod report;

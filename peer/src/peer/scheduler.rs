@@ -89,14 +89,45 @@ impl State {
     }
 }
 
+/// What the searches met with, for the comparison's counts. A search is wide
+/// when an order could contain more than seven events.
+#[derive(Clone, Copy, Debug, Default, PartialEq, Eq)]
+pub struct Met {
+    /// Orders of held events alone; the place is the length.
+    pub held_orders: [usize; 7],
+    /// Orders with a forced event; the place is the length.
+    pub forced_orders: [usize; 7],
+    /// Orders of either sort that a wide search found; the place is the length.
+    pub wide_orders: [usize; 7],
+    /// The most events that an order could contain in one search.
+    pub widest: u32,
+    /// The same, of the searches that found no order.
+    pub widest_in_vain: u32,
+}
+
+impl Met {
+    fn add(&mut self, usable: Set, held: Set, order: Option<Order>) {
+        let width = usable.count_ones();
+        self.widest = self.widest.max(width);
+        let Some(order) = order else {
+            self.widest_in_vain = self.widest_in_vain.max(width);
+            return;
+        };
+        let length = order.events().count();
+        let forced = order.events().any(|event| !has(held, event));
+        self.held_orders[length] += usize::from(!forced);
+        self.forced_orders[length] += usize::from(forced);
+        self.wide_orders[length] += usize::from(width > 7);
+    }
+}
+
 #[derive(Clone, Debug)]
 pub struct Scheduler {
     sheet: Sheet,
     state: State,
     history: Vec<Line>,
     search: Search,
-    /// How many orders of each length were done; for the comparison's counts.
-    orders: [usize; 7],
+    met: Met,
 }
 
 impl Scheduler {
@@ -106,7 +137,7 @@ impl Scheduler {
             state: State::default(),
             history: Vec::new(),
             search: Search::default(),
-            orders: [0; 7],
+            met: Met::default(),
         }
     }
 
@@ -122,9 +153,8 @@ impl Scheduler {
         &self.history
     }
 
-    /// How many orders of each length were done; the place is the length.
-    pub fn orders(&self) -> &[usize; 7] {
-        &self.orders
+    pub fn met(&self) -> &Met {
+        &self.met
     }
 
     /// Hands in an event and gives its fate. One that is not open is accepted:
@@ -177,8 +207,7 @@ impl Scheduler {
     /// The branches for an event that is not delayable. Nothing is settled
     /// before them.
     fn decide(&mut self, event: u8) {
-        let order = self.search.chosen(&self.sheet, &self.state, one(event));
-        if let Some(order) = order {
+        if let Some(order) = self.chosen(one(event)) {
             self.perform(order);
         } else if has(self.sheet.rejectable, event) {
             self.enter(event, Fate::Refused, Cause::NoOrder);
@@ -193,12 +222,20 @@ impl Scheduler {
                 self.enter(event, Fate::Refused, Cause::Barred);
                 continue;
             }
-            let held = self.state.held;
-            match self.search.chosen(&self.sheet, &self.state, held) {
+            match self.chosen(self.state.held) {
                 Some(order) => self.perform(order),
                 None => return,
             }
         }
+    }
+
+    /// The chosen order of the lowest of these held events that has one.
+    fn chosen(&mut self, wanted: Set) -> Option<Order> {
+        let order = self.search.chosen(&self.sheet, &self.state, wanted);
+        let held = self.state.held;
+        let forcible = self.state.open(&self.sheet) & self.sheet.forcible;
+        self.met.add(held | forcible, held, order);
+        order
     }
 
     fn lowest_barred(&self) -> Option<u8> {
@@ -208,7 +245,6 @@ impl Scheduler {
     }
 
     fn perform(&mut self, order: Order) {
-        self.orders[order.events().count()] += 1;
         for event in order.events() {
             let cause = if has(self.state.held, event) {
                 Cause::Ordered

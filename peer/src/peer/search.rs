@@ -1,14 +1,31 @@
 //! The chosen order.
 //!
-//! What may be done next and what is owed depend only on the set of done
-//! events, not on how it was reached. So the search goes over sets, one layer
-//! for each length, and keeps for each set the first order that reaches it.
+//! Length by length, from one event to six, the orders made of held events
+//! alone are looked at before those with an open forcible event, and the first
+//! viable one is taken (document 01, with the sequence of looking that S-4 asks
+//! for).
 //!
-//! A layer is kept in the order of its event sequences, compared from the
-//! front. Going through it in turn and adding events lowest first gives the
-//! next layer in that same order, so the first way to reach a set is its first
-//! order. The first set with a given event and nothing owed, shortest layer
-//! first, gives that event's chosen order.
+//! Which events may come next and what is owed depend on the set of events done
+//! so far, not on their sequence. So a walk goes over sets, in one layer for
+//! each length, and keeps for each set the first sequence that reaches it,
+//! compared from the front. No first order is lost by that:
+//!
+//! - Take the first of all sequences that reach a set, and let x be its last
+//!   event. What stands before x is the first sequence for its own set: an
+//!   earlier one followed by x would reach the whole set too, and earlier.
+//! - So each set of the next layer gets its first sequence from a sequence kept
+//!   in this one, with one event added. A layer stands in the order of its
+//!   sequences; going through it in turn and adding events lowest first makes
+//!   the next sequences in their order, and the first that reaches a set is the
+//!   one to keep.
+//! - A set is left out only when no order that is looked for goes through it,
+//!   in whatever sequence it was reached. So every way to the set of such an
+//!   order stays.
+//!
+//! The first set of a layer with the event in it and nothing owed is then the
+//! first viable order of that length. The walk over held events comes first;
+//! when it has none of a length, every viable order of that length has an open
+//! event, and the walk over all usable events gives the first of those.
 
 use super::rules::Rule;
 use super::scheduler::State;
@@ -99,91 +116,137 @@ impl Order {
     }
 }
 
-/// A set of done events and the digits of the first order that reaches it.
+/// A set of done events and the digits of the first sequence that reaches it.
 #[derive(Clone, Copy, Debug)]
 struct Reached {
     done: Set,
     digits: u32,
 }
 
-/// The lists that a search uses; kept so that they are not made anew each time.
-#[derive(Clone, Debug)]
-pub struct Search {
-    seen: Vec<u64>,
-    reached: Vec<Reached>,
+/// What the orders looked for are made of.
+struct Aim {
+    usable: Set,
+    /// They have at least one of these.
+    wanted: Set,
+    /// How many more events may come after the layer being made.
+    places: u32,
 }
 
-impl Default for Search {
-    fn default() -> Search {
-        Search {
+/// The sets reached, layer after layer.
+#[derive(Clone, Debug)]
+struct Walk {
+    seen: Vec<u64>,
+    reached: Vec<Reached>,
+    /// Where the last layer begins.
+    layer: usize,
+}
+
+impl Default for Walk {
+    fn default() -> Walk {
+        Walk {
             seen: vec![0; 65_536 / 64],
             reached: Vec::new(),
+            layer: 0,
         }
     }
+}
+
+impl Walk {
+    fn start(&mut self, done: Set) {
+        for reached in self.reached.drain(..) {
+            self.seen[usize::from(reached.done >> 6)] = 0;
+        }
+        self.reached.push(Reached { done, digits: 0 });
+        self.layer = 0;
+    }
+
+    /// Makes the next layer.
+    fn lengthen(&mut self, terms: &Terms, aim: &Aim) {
+        let end = self.reached.len();
+        for place in self.layer..end {
+            let from = self.reached[place];
+            for event in members(aim.usable & !from.done) {
+                if terms.allows(event, from.done) {
+                    self.reach(terms, aim, from, event);
+                }
+            }
+        }
+        self.layer = end;
+    }
+
+    /// Adds a set unless it is there already, or no order looked for goes
+    /// through it: a debt ends only when its goal is done, so there has to be a
+    /// place for every goal owed, and for a wanted event where none is done or
+    /// owed.
+    fn reach(&mut self, terms: &Terms, aim: &Aim, from: Reached, event: u8) {
+        let done = from.done | one(event);
+        let (word, bit) = (usize::from(done >> 6), 1u64 << (done & 63));
+        if self.seen[word] & bit != 0 {
+            return;
+        }
+        let owed = terms.owed(done);
+        let missing = u32::from((done | owed) & aim.wanted == 0);
+        if within(owed, aim.usable) && owed.count_ones() + missing <= aim.places {
+            self.seen[word] |= bit;
+            let digits = from.digits << 4 | u32::from(event);
+            self.reached.push(Reached { done, digits });
+        }
+    }
+
+    /// The lowest event of `wanted` with a viable order in the last layer, and
+    /// the digits of the first such order.
+    fn found(&self, terms: &Terms, mut wanted: Set) -> Option<(u8, u32)> {
+        let mut best = None;
+        for reached in &self.reached[self.layer..] {
+            let Some(event) = lowest(reached.done & wanted) else {
+                continue;
+            };
+            if terms.owed(reached.done) == 0 {
+                wanted &= one(event) - 1;
+                best = Some((event, reached.digits));
+            }
+        }
+        best
+    }
+}
+
+/// The lists that a search uses; kept so that they are not made anew each time.
+#[derive(Clone, Debug, Default)]
+pub struct Search {
+    over_held: Walk,
+    over_all: Walk,
 }
 
 impl Search {
     /// The chosen order of the lowest event of `wanted` that has a viable one.
+    /// The events of `wanted` are held.
     pub fn chosen(&mut self, sheet: &Sheet, state: &State, wanted: Set) -> Option<Order> {
         let terms = Terms::new(sheet, state);
-        let usable = state.held | (state.open(sheet) & sheet.forcible);
-        let found = self.layers(&terms, state.done, usable & !terms.never, wanted);
-        for reached in self.reached.drain(..) {
-            self.seen[usize::from(reached.done >> 6)] = 0;
-        }
-        found
-    }
-
-    /// Goes through the layers. Once an event has an order only lower ones are
-    /// wanted still.
-    fn layers(&mut self, terms: &Terms, done: Set, usable: Set, wanted: Set) -> Option<Order> {
-        let mut wanted = wanted & usable;
+        let held = state.held & !terms.never;
+        let all = held | (state.open(sheet) & sheet.forcible & !terms.never);
+        self.over_held.start(state.done);
+        self.over_all.start(state.done);
+        let mut wanted = wanted & held;
         let mut best = None;
-        let mut from = 0;
-        self.reached.push(Reached { done, digits: 0 });
         for length in 1..=LONGEST {
-            let to = self.reached.len();
-            for place in from..to {
+            let places = LONGEST - length;
+            for (walk, usable) in [(&mut self.over_held, held), (&mut self.over_all, all)] {
+                // Once an event has an order, only lower ones are wanted still.
                 if wanted == 0 {
                     return best;
                 }
-                self.extend(terms, self.reached[place], usable, LONGEST - length);
-            }
-            from = to;
-            for reached in &self.reached[from..] {
-                let Some(event) = lowest(reached.done & wanted) else {
-                    continue;
+                let aim = Aim {
+                    usable,
+                    wanted,
+                    places,
                 };
-                if terms.owed(reached.done) == 0 {
+                walk.lengthen(&terms, &aim);
+                if let Some((event, digits)) = walk.found(&terms, wanted) {
                     wanted &= one(event) - 1;
-                    let digits = reached.digits;
                     best = Some(Order { digits, length });
                 }
             }
         }
         best
-    }
-
-    /// Adds the sets that are one event larger. A set is dropped when what it
-    /// owes cannot be done in the places left: a debt ends only when its goal
-    /// is done.
-    fn extend(&mut self, terms: &Terms, from: Reached, usable: Set, places: u32) {
-        for event in members(usable & !from.done) {
-            if !terms.allows(event, from.done) {
-                continue;
-            }
-            let done = from.done | one(event);
-            let (word, bit) = (usize::from(done >> 6), 1u64 << (done & 63));
-            if self.seen[word] & bit != 0 {
-                continue;
-            }
-            let owed = terms.owed(done);
-            if !within(owed, usable) || owed.count_ones() > places {
-                continue;
-            }
-            self.seen[word] |= bit;
-            let digits = from.digits << 4 | u32::from(event);
-            self.reached.push(Reached { done, digits });
-        }
     }
 }

@@ -12,7 +12,7 @@ pub fn calls(random: &mut Random, made: &Made) -> Vec<u8> {
     };
     let closing = random.pick(&[0, 2, 5, 15, 40]);
     let mut list = Vec::new();
-    if random.percent(40) {
+    if random.percent(if made.events > 7 { 60 } else { 40 }) {
         list.extend(all_events(random, made));
     }
     for _ in 0..length {
@@ -42,6 +42,19 @@ pub fn long_list(random: &mut Random, made: &Made, length: usize, closing: u64) 
 /// Most events, each handed in once, then everything closed and wound up.
 pub fn full_list(random: &mut Random, made: &Made) -> Vec<u8> {
     let mut list = all_events(random, made);
+    list.extend(ending(random, made));
+    list
+}
+
+/// Like a full list, at times with closings among the hand-ins.
+pub fn hostile_list(random: &mut Random, made: &Made) -> Vec<u8> {
+    let mut list = all_events(random, made);
+    for _ in 0..random.pick(&[0, 0, 0, 0, 1, 1, 2, 4]) {
+        // Each hand-in is two bytes.
+        let place = 2 * random.below(list.len() / 2 + 1);
+        let step = random.pick(&made.steps);
+        list.splice(place..place, [17, step]);
+    }
     list.extend(ending(random, made));
     list
 }

@@ -2,10 +2,12 @@
 
 mod damage;
 mod lists;
+mod shapes;
 mod sheets;
 
-pub use lists::{calls, full_list, long_list};
-pub use sheets::{large_sheet, sheet, small_sheet, Made, USUAL_ACTIVE};
+pub use lists::{calls, full_list, hostile_list, long_list};
+pub use shapes::hostile_sheet;
+pub use sheets::{large_sheet, sheet, small_sheet, Made};
 
 /// Splitmix64.
 pub struct Random(u64);

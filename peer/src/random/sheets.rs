@@ -2,18 +2,12 @@
 //! way that aims at one row of the table, or are random bytes.
 
 use super::damage::damage;
+use super::shapes::shaped;
 use super::Random;
 
-/// The proved library tries every order of the events that are held, or open
-/// and forcible. So the number of events that are delayable or forcible is
-/// limited: usually to the first number, for a part of the sheets to the
-/// second.
-pub const USUAL_ACTIVE: usize = 7;
-pub const RARE_ACTIVE: usize = 16;
-pub const RARE_PERCENT: u64 = 20;
-
 const DAMAGED_PERCENT: u64 = 25;
-const CHAIN_PERCENT: u64 = 22;
+const CHAIN_PERCENT: u64 = 20;
+const SHAPED_PERCENT: u64 = 55;
 /// st, pr, cm, ab.
 const FOUR: [u8; 4] = [7, 0, 6, 1];
 /// Delayable or forcible.
@@ -61,6 +55,15 @@ impl Draft {
         self.rules += 1;
     }
 
+    /// Adds those of the rules that are enforceable, up to `most` on the sheet.
+    pub fn add_fitting(&mut self, rules: Vec<Vec<u8>>, most: usize) {
+        for rule in rules {
+            if self.rules < most && self.enforceable(&rule) {
+                self.add_rule(rule);
+            }
+        }
+    }
+
     fn is(&self, event: u8, attribute: u8) -> bool {
         self.attributes[usize::from(event)] & attribute != 0
     }
@@ -93,17 +96,18 @@ pub fn sheet(random: &mut Random) -> Made {
 pub fn small_sheet(random: &mut Random, most: usize) -> Made {
     let events = random.between(1, most);
     let rules = random.between(0, 2 * events).min(16);
-    let draft = draft_of(random, events, rules, USUAL_ACTIVE);
+    let draft = draft_of(random, events, rules, 16);
     finish(random, draft, false)
 }
 
-/// An admitted sheet of 16 events and up to 16 rules.
+/// An admitted sheet of 16 events and up to 16 rules. At most `active` of the
+/// events are delayable or forcible.
 pub fn large_sheet(random: &mut Random, active: usize) -> Made {
     let draft = draft_of(random, 16, 16, active);
     finish(random, draft, false)
 }
 
-fn finish(random: &mut Random, draft: Draft, damaged: bool) -> Made {
+pub fn finish(random: &mut Random, draft: Draft, damaged: bool) -> Made {
     let (events, mut steps) = (draft.events(), draft.steps.clone());
     steps.sort_unstable();
     steps.dedup();
@@ -119,9 +123,13 @@ fn finish(random: &mut Random, draft: Draft, damaged: bool) -> Made {
     }
 }
 
+/// A chain, some shapes, or events and rules of all sorts.
 fn draft(random: &mut Random) -> Draft {
     if random.percent(CHAIN_PERCENT) {
         return draft_chain(random);
+    }
+    if random.percent(SHAPED_PERCENT) {
+        return draft_shaped(random);
     }
     let (least, most) = random.pick(&[(0, 3), (2, 4), (3, 6), (5, 8), (7, 12), (13, 16)]);
     let events = random.between(least, most);
@@ -130,12 +138,7 @@ fn draft(random: &mut Random) -> Draft {
     } else {
         random.between(0, 16)
     };
-    let active = if random.percent(RARE_PERCENT) {
-        RARE_ACTIVE
-    } else {
-        USUAL_ACTIVE
-    };
-    draft_of(random, events, rules, active)
+    draft_of(random, events, rules, 16)
 }
 
 /// Events and rules in mixed order. Some sheets favour delayable events, some
@@ -178,14 +181,27 @@ fn draft_of(random: &mut Random, events: usize, rules: usize, active: usize) -> 
 /// orders, and events held until the winding up.
 fn draft_chain(random: &mut Random) -> Draft {
     let mut draft = Draft::default();
-    for event in 0..random.pick(&[2, 2, 3, 4, 5, 6, 6, 7, 7]) {
+    for event in 0..random.pick(&[2, 2, 3, 4, 5, 6, 6, 6, 7, 7, 8, 12, 16]) {
         let sum = random.pick(&[6, 6, 6, 6, 6, 6, 6, 6, 7, 1]);
-        draft.declare(event, sum);
+        draft.declare(event % 8, sum);
     }
     let mut chain: Vec<u8> = (0..draft.events() as u8).collect();
     random.shuffle(&mut chain);
     link(random, &mut draft, chain, 16);
-    for _ in 0..random.below(3) {
+    let more = random.below(3);
+    for _ in 0..more.min(16 - draft.rules) {
+        add_rule(random, &mut draft);
+    }
+    draft
+}
+
+/// Rings, stars and the like, and few other rules.
+fn draft_shaped(random: &mut Random) -> Draft {
+    let (least, most) = random.pick(&[(2, 5), (3, 7), (6, 12), (16, 16), (16, 16)]);
+    let events = random.between(least, most);
+    let mut draft = shaped(random, events);
+    let more = random.pick(&[0, 0, 1, 2, 5]);
+    for _ in 0..more.min(16 - draft.rules) {
         add_rule(random, &mut draft);
     }
     draft

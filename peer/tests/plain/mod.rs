@@ -44,6 +44,12 @@ impl Plain {
         plain
     }
 
+    /// Puts a state that no list may have led to; it has no history.
+    pub fn put(&mut self, fates: &[Fate], broken: &[bool]) {
+        self.fates = fates.to_vec();
+        self.broken = broken.to_vec();
+    }
+
     fn declare(&mut self, step: u8, attributes: &[u8]) {
         for sum in attributes {
             self.attributes.push(*sum);
@@ -116,6 +122,14 @@ impl Plain {
         }
     }
 
+    /// Whether the event may stand at the next place of an order.
+    fn may_be_next(&self, event: u8) -> bool {
+        let fate = self.fate(event);
+        let usable = fate == Held || (fate == Open && self.is(event, 1));
+        let forbidden = |rule| self.forbids(rule, event).0 || self.forbids(rule, event).1;
+        usable && !(0..self.rules.len()).any(forbidden)
+    }
+
     /// The first order of exactly `length` events that contains `wanted` (or
     /// has it behind it) and is viable, by trying all of them.
     fn order(&mut self, wanted: u8, length: usize) -> Option<Vec<u8>> {
@@ -124,13 +138,10 @@ impl Plain {
             return (self.done(wanted) && !owing).then(Vec::new);
         }
         for event in 0..self.fates.len() as u8 {
-            let before = self.fate(event);
-            let usable = before == Held || (before == Open && self.is(event, 1));
-            let forbidden = |rule| self.forbids(rule, event).0 || self.forbids(rule, event).1;
-            if !usable || (0..self.rules.len()).any(forbidden) {
+            if !self.may_be_next(event) {
                 continue;
             }
-            self.fates[usize::from(event)] = Done;
+            let before = std::mem::replace(&mut self.fates[usize::from(event)], Done);
             let rest = self.order(wanted, length - 1);
             self.fates[usize::from(event)] = before;
             if let Some(rest) = rest {
@@ -140,8 +151,28 @@ impl Plain {
         None
     }
 
-    fn chosen(&mut self, event: u8) -> Option<Vec<u8>> {
+    /// Document 01's chosen order. Held and open events are looked at alike.
+    pub fn chosen(&mut self, event: u8) -> Option<Vec<u8>> {
         (1..=6).find_map(|length| self.order(event, length))
+    }
+
+    /// Every viable order of exactly `length` events.
+    pub fn orders(&mut self, wanted: u8, length: usize) -> Vec<Vec<u8>> {
+        if length == 0 {
+            return self.order(wanted, 0).into_iter().collect();
+        }
+        let mut found = Vec::new();
+        for event in 0..self.fates.len() as u8 {
+            if !self.may_be_next(event) {
+                continue;
+            }
+            let before = std::mem::replace(&mut self.fates[usize::from(event)], Done);
+            for rest in self.orders(wanted, length - 1) {
+                found.push([vec![event], rest].concat());
+            }
+            self.fates[usize::from(event)] = before;
+        }
+        found
     }
 
     fn enter(&mut self, event: u8, fate: Fate) {

@@ -1,24 +1,26 @@
--- `search` meets its contract. What falls: the places left. The loop: what is left of it from x on is the whole
--- answer.
-use borrow.Author.Tests.{not-true, not-false}
+-- `search` meets its contract. What falls: the places left.
 use native.Mathlib.Omega.{arith}
-use mathlib.Core.Logic.{⊎-elim}
-use mathlib.Core.Path.{sym, _∙_}
-use Rattle.scheduler.proofs.SearchLoops.{end-found, end-owing, end-without, left-zero, Left, left-none, skip, miss, hit}
-use Rattle.scheduler.proofs.order.+search.{statement}
-use Prim.Native.Nat.{ℕ, _≤_, _<_, _-_}
+use mathlib.Core.Path.{refl, sym, _∙_}
+use Prim.Native.Nat.{ℕ, _<_}
 use borrow.Fn.Kinds.{In}
 use borrow.Fn.PlainCycle.{Measures, is, falls, and}
+use Rattle.members.proofs.blocked.blocked_in.Reads as blocked-in-reads
+use Rattle.members.proofs.set.lowest_of.Reads as lowest-of-reads
+use Rattle.members.proofs.set.with_if.Reads as with-if-reads
+use Rattle.members.proofs.set.without.Reads as without-reads
+use Rattle.scheduler.specs.State.{fateOf}
+use Rattle.scheduler.proofs.Sizes.{sized}
+use Rattle.scheduler.proofs.SearchLoops.{search-end, search-more, search-full, search-stuck, search-miss, search-hit}
 use Rattle.scheduler.proofs.order.search.Reads as search′
 use Rattle.scheduler.proofs.order.search.Kinds as search-kinds
 use Rattle.scheduler.proofs.order.+search.Lts-search as search-lts
-use Rattle.scheduler.proofs.state.State.is_owing.Reads as is-owing-reads
-use Rattle.scheduler.proofs.state.State.may_do.Reads as may-do-reads
 use Rattle.scheduler.proofs.state.State.do_one.Reads as do-one-reads
+use Rattle.scheduler.proofs.state.State.view.Reads as view-reads
+use Rattle.scheduler.proofs.order.+search.{statement}
 use Rattle.scheduler.proofs.order.+search.Tie.{close}
 
 abbrev μ-search : Measures 0 search-kinds.ps ℕ
-μ-search κs a = a .1 .1 .1 .1 .0
+μ-search κs a = a .1 .1 .1 .0
 
 abbrev search-at : ℕ → In 0 search-kinds.ps
 search-at t = and 0 search-kinds.ps (is 0 search-kinds.ps μ-search t) search′.Pre
@@ -26,99 +28,136 @@ search-at t = and 0 search-kinds.ps (is 0 search-kinds.ps μ-search t) search′
 abbrev search-below : ℕ → In 0 search-kinds.ps
 search-below t = and 0 search-kinds.ps (falls 0 search-kinds.ps _<_ μ-search t) search′.Pre
 
-abbrev search-Inv-loop : search-lts.InvT-loop
-search-Inv-loop s event had at places none n x₀ x = (x ≤ n) × Left s event had places x
-
-abbrev search-μ-loop : search-lts.MeasureT-loop
-search-μ-loop s event had at places none n x₀ x = n - x
-
 abbrev claims : ℕ → search-lts.Claims
 claims t =
-    (is-owing-reads.Asked, is-owing-reads.Learnt, may-do-reads.Asked, may-do-reads.Learnt, do-one-reads.Asked, do-one-reads.Learnt, search-below t, search′.Post)
+    (lowest-of-reads.Asked, lowest-of-reads.Learnt, view-reads.Asked, view-reads.Learnt, blocked-in-reads.Asked, blocked-in-reads.Learnt, without-reads.Asked, without-reads.Learnt, do-one-reads.Asked, do-one-reads.Learnt, with-if-reads.Asked, with-if-reads.Learnt, search-below t, search′.Post)
 
 module _ (t : ℕ) where
-  search-is-owing-requires : search-lts.Need-is-owing-requires (claims t) (search-at t) search′.Post search-Inv-loop search-μ-loop
-  search-is-owing-requires c κs = tt
+  search-lowest-of-requires : search-lts.Need-lowest-of-requires (claims t) (search-at t) search′.Post
+  search-lowest-of-requires c κs = tt
 
-  search-returns : search-lts.Need-returns (claims t) (search-at t) search′.Post search-Inv-loop search-μ-loop
+  search-returns : search-lts.Need-returns (claims t) (search-at t) search′.Post
   search-returns c =
-      end-found _ _ _ _ _
-      (c .before .before .before .if1 .taken)
-      (c .before .before .if2 .taken)
-      (sym (c .before .is-owing .ensures) ∙ not-true _ (c .if3 .taken))
+      let st = c .before .before in
+      search-end (st .args .s) (st .args .left) (st .args .at) (st .args .places) (c .before .lowest-of .result) (c .before .lowest-of .ensures) (c .if1 .taken)
 
-  search-returns-2 : search-lts.Need-returns-2 (claims t) (search-at t) search′.Post search-Inv-loop search-μ-loop
+  search-returns-2 : search-lts.Need-returns-2 (claims t) (search-at t) search′.Post
   search-returns-2 c =
-      end-owing _ _ _ _ _
-      (c .before .before .before .if1 .taken)
-      (sym (c .before .is-owing .ensures) ∙ not-false _ (c .if3 .left))
+      let st = c .before .before .before in
+      search-full (st .args .s) (st .args .left) (st .args .at) (st .args .places) (search-more (st .args .s) (st .args .left) (st .args .at) (st .args .places) (c .before .before .lowest-of .result) (c .before .before .lowest-of .ensures) (c .before .if1 .left)) (c .if2 .taken)
 
-  search-returns-3 : search-lts.Need-returns-3 (claims t) (search-at t) search′.Post search-Inv-loop search-μ-loop
-  search-returns-3 c = end-without _ _ _ _ _ (c .before .if1 .taken) (c .if2 .left)
+  search-view-requires : search-lts.Need-view-requires (claims t) (search-at t) search′.Post
+  search-view-requires c κs = tt
 
-  search-loop-holds : search-lts.Need-loop-holds (claims t) (search-at t) search′.Post search-Inv-loop search-μ-loop
-  search-loop-holds c = (omega arith, left-zero _ _ _ _ (c .before .if1 .left))
+  search-blocked-in-requires : search-lts.Need-blocked-in-requires (claims t) (search-at t) search′.Post
+  search-blocked-in-requires c κs = tt
 
-  search-may-do-requires : search-lts.Need-may-do-requires (claims t) (search-at t) search′.Post search-Inv-loop search-μ-loop
-  search-may-do-requires c κs = tt
+  search-without-requires : search-lts.Need-without-requires (claims t) (search-at t) search′.Post
+  search-without-requires c κs = tt
 
-  search-do-one-requires : search-lts.Need-do-one-requires (claims t) (search-at t) search′.Post search-Inv-loop search-μ-loop
+  search-lowest-of-requires-2 : search-lts.Need-lowest-of-requires-2 (claims t) (search-at t) search′.Post
+  search-lowest-of-requires-2 c κs = tt
+
+  search-do-one-requires : search-lts.Need-do-one-requires (claims t) (search-at t) search′.Post
   search-do-one-requires c κs = tt
 
-  search-add-search : search-lts.Need-add-search (claims t) (search-at t) search′.Post search-Inv-loop search-μ-loop
+  search-with-if-requires : search-lts.Need-with-if-requires (claims t) (search-at t) search′.Post
+  search-with-if-requires c κs = tt
+
+  search-without-requires-2 : search-lts.Need-without-requires-2 (claims t) (search-at t) search′.Post
+  search-without-requires-2 c κs = tt
+
+  search-add-search : search-lts.Need-add-search (claims t) (search-at t) search′.Post
   search-add-search c = omega arith
 
-  search-sub-search : search-lts.Need-sub-search (claims t) (search-at t) search′.Post search-Inv-loop search-μ-loop
+  search-sub-search : search-lts.Need-sub-search (claims t) (search-at t) search′.Post
   search-sub-search c = omega arith
 
-  search-search-requires : search-lts.Need-search-requires (claims t) (search-at t) search′.Post search-Inv-loop search-μ-loop
+  search-search-requires : search-lts.Need-search-requires (claims t) (search-at t) search′.Post
   search-search-requires c κs = (omega arith, omega arith)
 
-  search-element-write-q : search-lts.Need-element-write-q (claims t) (search-at t) search′.Post search-Inv-loop search-μ-loop
-  search-element-write-q c = omega arith
+  search-element-write-q : search-lts.Need-element-write-q (claims t) (search-at t) search′.Post
+  search-element-write-q c = omega (arith, c .before .before .before .before .before .before .before .before .before .before .before .before .before .before .before .before .pre .1, c .before .before .before .before .before .before .before .before .before .before .before .before .before .if2 .left)
 
-  search-returns-4 : search-lts.Need-returns-4 (claims t) (search-at t) search′.Post search-Inv-loop search-μ-loop
+  search-returns-3 : search-lts.Need-returns-3 (claims t) (search-at t) search′.Post
+  search-returns-3 c =
+      let st = c .before .before .before .before .before .before .before .before .before .before .before .before .before .before .before .before in
+      let s = st .args .s in
+      search-hit s (st .args .left) (st .args .at) (st .args .places)
+      (c .before .before .before .before .before .before .before .before .blocked-in .result)
+      (c .before .before .before .before .before .before .before .without .result)
+      (c .before .before .before .before .before .before .before .before .blocked-in .ensures (s .plan) (fateOf s) refl refl (c .before .before .before .before .before .before .before .before .before .view .ensures))
+      (c .before .before .before .before .before .before .before .without .ensures)
+      (search-more s (st .args .left) (st .args .at) (st .args .places) (c .before .before .before .before .before .before .before .before .before .before .before .before .before .before .before .lowest-of .result) (c .before .before .before .before .before .before .before .before .before .before .before .before .before .before .before .lowest-of .ensures) (c .before .before .before .before .before .before .before .before .before .before .before .before .before .before .if1 .left))
+      (c .before .before .before .before .before .before .before .before .before .before .before .before .before .if2 .left)
+      (c .before .before .before .before .before .before .lowest-of2 .result)
+      (c .before .before .before .before .before .before .lowest-of2 .ensures)
+      (sized s (st .good .0))
+      (c .before .before .before .before .before .if3 .taken)
+      (c .before .before .before .with-if .result)
+      (c .before .before .without2 .result)
+      (c .before .before .before .with-if .ensures)
+      (c .before .before .without2 .ensures)
+      (c .before .search .result)
+      (rw (c .before .before .before .before .do-one .ensures) at (c .before .search .ensures))
+      (c .if4 .taken)
+
+  search-returns-4 : search-lts.Need-returns-4 (claims t) (search-at t) search′.Post
   search-returns-4 c =
-      let same = rw (c .before .before .do-one .ensures) at (c .before .search .ensures) in
-      hit _ _ _ _ (c .before .before .before .before .before .before .loop .x) (c .before .before .before .before .before .loop-test .taken) (c .before .before .before .before .before .before .loop .inv .1) _ (c .before .search .result) same (sym (c .before .before .before .before .may-do .ensures) ∙ c .before .before .before .if4 .taken) (c .if5 .taken)
+      let st = c .before .before .before .before .before .before .before .before .before .before .before .before .before .before .before .before in
+      let s = st .args .s in
+      search-miss s (st .args .left) (st .args .at) (st .args .places)
+      (c .before .before .before .before .before .before .before .before .blocked-in .result)
+      (c .before .before .before .before .before .before .before .without .result)
+      (c .before .before .before .before .before .before .before .before .blocked-in .ensures (s .plan) (fateOf s) refl refl (c .before .before .before .before .before .before .before .before .before .view .ensures))
+      (c .before .before .before .before .before .before .before .without .ensures)
+      (search-more s (st .args .left) (st .args .at) (st .args .places) (c .before .before .before .before .before .before .before .before .before .before .before .before .before .before .before .lowest-of .result) (c .before .before .before .before .before .before .before .before .before .before .before .before .before .before .before .lowest-of .ensures) (c .before .before .before .before .before .before .before .before .before .before .before .before .before .before .if1 .left))
+      (c .before .before .before .before .before .before .before .before .before .before .before .before .before .if2 .left)
+      (c .before .before .before .before .before .before .lowest-of2 .result)
+      (c .before .before .before .before .before .before .lowest-of2 .ensures)
+      (sized s (st .good .0))
+      (c .before .before .before .before .before .if3 .taken)
+      (c .before .before .before .with-if .result)
+      (c .before .before .without2 .result)
+      (c .before .before .before .with-if .ensures)
+      (c .before .before .without2 .ensures)
+      (c .before .search .result)
+      (rw (c .before .before .before .before .do-one .ensures) at (c .before .search .ensures))
+      (c .if4 .left)
 
-  search-add-x : search-lts.Need-add-x (claims t) (search-at t) search′.Post search-Inv-loop search-μ-loop
-  search-add-x c = omega arith
-
-  search-loop-less : search-lts.Need-loop-less (claims t) (search-at t) search′.Post search-Inv-loop search-μ-loop
-  search-loop-less c = omega arith
-
-  search-loop-again : search-lts.Need-loop-again (claims t) (search-at t) search′.Post search-Inv-loop search-μ-loop
-  search-loop-again c = (
-    omega arith,
-    ⊎-elim
-        (λ w. miss _ _ _ _ (c .before .before .before .loop .x) (c .before .before .loop-test .taken) (c .before .before .before .loop .inv .1) _ (w .2 .result) (rw (w .1 .ensures) at (w .2 .ensures)) (w .3 .left))
-        (λ w. skip _ _ _ _ (c .before .before .before .loop .x) (c .before .before .loop-test .taken) (c .before .before .before .loop .inv .1) (sym (c .before .may-do .ensures) ∙ w .left))
-        (c .if4 .came),
-  )
-
-  search-returns-5 : search-lts.Need-returns-5 (claims t) (search-at t) search′.Post search-Inv-loop search-μ-loop
-  search-returns-5 c = left-none _ _ _ _ _ (c .before .loop .x) (c .before .loop .inv .1) (c .loop-test .left)
+  search-returns-5 : search-lts.Need-returns-5 (claims t) (search-at t) search′.Post
+  search-returns-5 c =
+      let st = c .before .before .before .before .before .before .before .before .before .before .before in
+      let s = st .args .s in
+      search-stuck s (st .args .left) (st .args .at) (st .args .places)
+      (c .before .before .before .blocked-in .result)
+      (c .before .before .without .result)
+      (c .before .before .before .blocked-in .ensures (s .plan) (fateOf s) refl refl (c .before .before .before .before .view .ensures))
+      (c .before .before .without .ensures)
+      (search-more s (st .args .left) (st .args .at) (st .args .places) (c .before .before .before .before .before .before .before .before .before .before .lowest-of .result) (c .before .before .before .before .before .before .before .before .before .before .lowest-of .ensures) (c .before .before .before .before .before .before .before .before .before .if1 .left))
+      (c .before .before .before .before .before .before .before .before .if2 .left)
+      (c .before .lowest-of2 .result)
+      (c .before .lowest-of2 .ensures)
+      (λ lt. omega (arith, c .if3 .left))
 
 pub +search-spec : {M : Type 1} → statement M
 +search-spec = close μ-search λ t. search-lts.spec (claims t)
     (search-at t)
     search′.Post
-    search-Inv-loop
-    search-μ-loop
-    (search-is-owing-requires t)
+    (search-lowest-of-requires t)
     (search-returns t)
     (search-returns-2 t)
-    (search-returns-3 t)
-    (search-loop-holds t)
-    (search-may-do-requires t)
+    (search-view-requires t)
+    (search-blocked-in-requires t)
+    (search-without-requires t)
+    (search-lowest-of-requires-2 t)
     (search-do-one-requires t)
+    (search-with-if-requires t)
+    (search-without-requires-2 t)
     (search-add-search t)
     (search-sub-search t)
     (search-search-requires t)
     (search-element-write-q t)
+    (search-returns-3 t)
     (search-returns-4 t)
-    (search-add-x t)
-    (search-loop-less t)
-    (search-loop-again t)
     (search-returns-5 t)

@@ -1,32 +1,36 @@
--- `State::do_chosen` meets its contract. The loop: what is left of it from e on is the whole answer.
-use Prim.Native.Nat.{_≤_, _-_}
+-- `State::do_chosen` meets its contract. The loop: what is left of it from e on is the whole answer, and the events that
+-- count no more as able have no order.
+use Prim.Native.Nat.{ℕ, _≤_, _-_}
 use native.Mathlib.Omega.{arith}
 use mathlib.Core.Logic.{⊎-elim}
-use Rattle.scheduler.specs.Orders.{doAll}
+use mathlib.Core.Bool.{true, false}
+use mathlib.Core.Path.{sym, _∙_, subst}
 use Rattle.plan.specs.Plans.{eventCount}
+use Rattle.members.specs.Sets.{inSet}
+use Rattle.scheduler.specs.Orders.{doAll}
 use Rattle.scheduler.specs.Calls.{toDo}
+use Rattle.scheduler.specs.Internal.Hopeful.{Hopeful}
 use Rattle.plan.proofs.Loops.{Rest, rest-all, rest-next}
-use Rattle.scheduler.proofs.SettleLoops.{turn-made, turn-none, held-told, doing, doing-some, doing-missing, doing-none}
+use Rattle.members.proofs.Bits.{in-below}
+use Rattle.scheduler.proofs.SearchLoops.{hopeful-all, hopeful-less}
+use Rattle.scheduler.proofs.SettleLoops.{turn-made, turn-none, held-seen, order-missing, doing, doing-some, doing-missing, doing-none}
 use Rattle.scheduler.proofs.state.State.do_chosen.Statement.{statement}
 use Rattle.scheduler.proofs.state.State.do_chosen.Tie as tie
 
 abbrev Inv-loop : tie.InvT-loop
-Inv-loop self standings n e₀ e = (e ≤ n) × Rest (eventCount (self .plan)) (doing self) e
+Inv-loop self view n able₀ e₀ able e = (e ≤ n) × Rest (eventCount (self .plan)) (doing self) e × Hopeful self (inSet able)
 
 abbrev μ-loop : tie.MeasureT-loop
-μ-loop self standings n e₀ e = n - e
+μ-loop self view n able₀ e₀ able e = n - e
 
 loop-holds : tie.Need-loop-holds Inv-loop μ-loop
-loop-holds c = (omega arith, rest-all _ _)
+loop-holds c = (omega arith, rest-all _ _, hopeful-all _ _ (c .before .pre))
 
-fate-in-requires : tie.Need-fate-in-requires Inv-loop μ-loop
-fate-in-requires c κs = tt
+is-in-requires : tie.Need-is-in-requires Inv-loop μ-loop
+is-in-requires c κs = tt
 
-is-held-requires : tie.Need-is-held-requires Inv-loop μ-loop
-is-held-requires c κs = tt
-
-find-order-requires : tie.Need-find-order-requires Inv-loop μ-loop
-find-order-requires c κs = tt
+find-among-requires : tie.Need-find-among-requires Inv-loop μ-loop
+find-among-requires c κs = (c .before .before .before .before .before .pre, c .before .before .before .loop .inv .2)
 
 do-order-requires : tie.Need-do-order-requires Inv-loop μ-loop
 do-order-requires c κs = tt
@@ -34,10 +38,17 @@ do-order-requires c κs = tt
 returns : tie.Need-returns Inv-loop μ-loop
 unfolding toDo
 returns c =
-    let at = c .before .before .before .before .before .before .before .loop in
-    let s = c .before .before .before .before .before .before .before .before .before .before .args .self in
-    let held = held-told s (at .e) _ _ _ (c .before .before .before .before .before .fate-in .ensures) (c .before .before .before .before .is-held .ensures) (c .before .before .before .if1 .taken) in
-    rw (c .do-order .ensures) (turn-made _ _ (at .e) (at .inv .1) s (doAll s) (omega arith) _ (doing-some s (at .e) _ (c .before .before .find-order .ensures) held (c .before .if2 .taken)))
+    let at = c .before .before .before .before .before .before .loop in
+    let st = c .before .before .before .before .before .before .before .before in
+    let s = st .args .self in
+    let held = held-seen s (st .args .view) (st .pre) (at .e) (omega arith) _ _ (c .before .before .before .before .is-in .ensures) (c .before .before .before .if1 .taken) in
+    rw (c .do-order .ensures) (turn-made _ _ (at .e) (at .inv .1) s (doAll s) (omega arith) _ (doing-some s (at .e) _ (c .before .before .find-among .ensures) held (c .before .if2 .taken)))
+
+with-if-requires : tie.Need-with-if-requires Inv-loop μ-loop
+with-if-requires c κs = tt
+
+without-requires : tie.Need-without-requires Inv-loop μ-loop
+without-requires c κs = tt
 
 add-e : tie.Need-add-e Inv-loop μ-loop
 add-e c = omega arith
@@ -47,19 +58,27 @@ loop-less c = omega arith
 
 loop-again : tie.Need-loop-again Inv-loop μ-loop
 loop-again c =
-    let at = c .before .before .before .before .loop in
-    let s = c .before .before .before .before .before .before .before .args .self in (
+    let at = c .before .before .before .loop in
+    let st = c .before .before .before .before .before in
+    let s = st .args .self in
+    let told = held-seen s (st .args .view) (st .pre) (at .e) (omega arith) (c .before .is-in .result) in
+    ⊎-elim
+    (λ w. (
       omega arith,
-      rest-next _ _ (at .e) (at .inv .1) (omega arith) (⊎-elim
-          (λ w. doing-missing s (at .e) _ (w .1 .ensures) (held-told s (at .e) _ _ _ (c .before .before .fate-in .ensures) (c .before .is-held .ensures) (w .0 .taken)) (w .2 .left))
-          (λ w. doing-none s (at .e) (held-told s (at .e) _ _ _ (c .before .before .fate-in .ensures) (c .before .is-held .ensures) (w .left)))
-          (c .if1 .came)),
-    )
+      rest-next _ _ (at .e) (at .inv .1) (omega arith) (doing-missing s (at .e) _ (w .1 .ensures) (told true (c .before .is-in .ensures) (w .0 .taken)) (w .2 .left)),
+      subst (λ (a : ℕ). Hopeful s (inSet a)) (sym (w .5)) (hopeful-less s (at .able) (w .3 .result) (w .4 .result) (at .e) (in-below _ (at .e) (sym (c .before .is-in .ensures) ∙ w .0 .taken)) (w .3 .ensures) (w .4 .ensures) (at .inv .2) (order-missing s (at .e) _ (w .1 .ensures) (w .2 .left))),
+    ))
+    (λ w. (
+      omega arith,
+      rest-next _ _ (at .e) (at .inv .1) (omega arith) (doing-none s (at .e) (told false (c .before .is-in .ensures) (w .0 .left))),
+      subst (λ (a : ℕ). Hopeful s (inSet a)) (sym (w .1)) (at .inv .2),
+    ))
+    (c .if1 .came)
 
 returns-2 : tie.Need-returns-2 Inv-loop μ-loop
 unfolding toDo
 returns-2 c =
-    let s = c .before .before .before .before .args .self in
+    let s = c .before .before .before .args .self in
     turn-none _ (doing s) (c .before .loop .e) (c .before .loop .inv .1) s (doAll s) (c .loop-test .left)
 
 pub do-chosen-spec : {M : Type 1} → statement M
@@ -69,11 +88,12 @@ do-chosen-spec =
     Inv-loop
     μ-loop
     loop-holds
-    fate-in-requires
-    is-held-requires
-    find-order-requires
+    is-in-requires
+    find-among-requires
     do-order-requires
     returns
+    with-if-requires
+    without-requires
     add-e
     loop-less
     loop-again

@@ -1,0 +1,9 @@
+-- Lemmas over the definitions of `members`, lowest first.
+pub mod Bits
+pub mod Lowest
+pub mod PlaceReads
+pub mod Views
+pub mod RuleSets
+pub mod Blocking
+pub mod Targets
+pub mod Growing

@@ -1,0 +1,130 @@
+-- What one rule asks for and blocks, over sets as code reads and makes them.
+use Prim.Native.Nat.{ℕ, _<_}
+use borrow.Author.Tests.{eqb-true, lt-ltb}
+use mathlib.Core.Bool.{Bool, true, false, not, _&&_, _||_}
+use mathlib.Core.Logic.{inl, inr}
+use mathlib.Core.Path.{_≡_, refl, _∙_}
+use lib.Dec.{eqb, ltb}
+use Rattle.plan.specs.declared.rule.Rule.the-variants.{Order, Need, Conditional}
+use Rattle.plan.specs.Fates.{Fates, isDone, isGone}
+use Rattle.plan.specs.Plans.{delayable}
+use Rattle.plan.specs.Rules.{bars}
+use Rattle.plan.proofs.Tests.{either}
+use Rattle.orders.specs.Closed.{asks}
+use Rattle.orders.specs.Stepwise.{follows}
+use Rattle.members.specs.Prelude.{Rule, Plan, View}
+use Rattle.members.specs.Sets.{inSet, Shows}
+
+-- the contract of `with_if` at one of the sixteen places: n is m, and e where told to
+pub with-at : (m n e x : ℕ) (is : Bool)
+    → x < 16
+    → inSet n x ≡ ((eqb x e && (ltb e 16 && is)) || inSet m x)
+    → inSet n x ≡ ((eqb x e && is) || inSet m x)
+with-at m n e x is lt h = elim (either (eqb x e)) [ inl t ↦ here t | inr t ↦ h ∙ rw t ]
+  where
+    here : eqb x e ≡ true → inSet n x ≡ ((eqb x e && is) || inSet m x)
+    here t =
+        let below : ltb x 16 ≡ true = lt-ltb x 16 lt in
+        h ∙ rw (t, ← eqb-true x e t, below)
+
+-- the same tests in another order
+order-sorted : (a b s : Bool) → (b || (a || s)) ≡ ((a || b) || s)
+order-sorted true true s = refl
+order-sorted true false s = refl
+order-sorted false true s = refl
+order-sorted false false s = refl
+
+need-sorted : (a s : Bool) → (a || s) ≡ ((a || false) || s)
+need-sorted true s = refl
+need-sorted false s = refl
+
+twice-sorted : (a s : Bool) → (a || s) ≡ (((a || false) || false) || s)
+twice-sorted true s = refl
+twice-sorted false s = refl
+
+both-sorted : (g a b x y s : Bool)
+    → ((b && (g && y)) || ((a && (g && x)) || s)) ≡ (((g && ((a && x) || (b && y))) || false) || s)
+both-sorted false true true x y s = refl
+both-sorted false true false x y s = refl
+both-sorted false false true x y s = refl
+both-sorted false false false x y s = refl
+both-sorted true false false x y s = refl
+both-sorted true true false x y s = twice-sorted x s
+both-sorted true false true x y s = need-sorted y s
+both-sorted true true true true true s = refl
+both-sorted true true true true false s = refl
+both-sorted true true true false true s = refl
+both-sorted true true true false false s = refl
+
+module _ (p : Plan) (f : Fates) (v : View) (shows : Shows p f v) (r : Rule) (a b : ℕ) where
+  -- what a rule asks for
+  module _ (m : ℕ) where
+    pub order-asks : (x y : Bool)
+        → r ≡ Order a b
+        → x ≡ inSet m b
+        → y ≡ inSet (v .waits) b
+        → (x && y) ≡ asks p f (inSet m) r
+    unfolding asks
+    order-asks x y is h k = rw (is, h, k, shows .waits b)
+
+    pub need-asks : (x y : Bool)
+        → r ≡ Need a b
+        → x ≡ inSet m a
+        → y ≡ inSet (v .done) a
+        → (x || y) ≡ asks p f (inSet m) r
+    unfolding asks
+    need-asks x y is h k = rw (is, h, k, shows .done a)
+
+    pub conditional-asks : (c : ℕ) (x y z w : Bool)
+        → r ≡ Conditional a b c
+        → x ≡ inSet m a
+        → y ≡ inSet (v .done) a
+        → z ≡ inSet m b
+        → w ≡ inSet (v .done) b
+        → ((x || y) && (z || w)) ≡ asks p f (inSet m) r
+    unfolding asks
+    conditional-asks c x y z w is h k i j = rw (is, h, k, i, j, shows .done a, shows .done b)
+
+  -- what it blocks: the set m, then with a, then with b
+  module _ (left m : ℕ) (x : ℕ) (lt : x < 16) where
+    abbrev Blocks : ℕ → Type 0
+    Blocks n = inSet n x ≡ ((bars p f r x || follows p (inSet left) r x) || inSet m x)
+
+    pub order-blocks : (n k : ℕ) (d l w : Bool)
+        → r ≡ Order a b
+        → d ≡ inSet (v .done) b
+        → inSet k x ≡ ((eqb x a && (ltb a 16 && d)) || inSet m x)
+        → l ≡ inSet left a
+        → w ≡ inSet (v .waits) b
+        → inSet n x ≡ ((eqb x b && (ltb b 16 && (l && (not (eqb a b) || w)))) || inSet k x)
+        → Blocks n
+    unfolding bars follows
+    order-blocks n k d l w is hd hk hl hw hn =
+        with-at k n b x (l && (not (eqb a b) || w)) lt hn
+        ∙ rw (with-at m k a x d lt hk, is, hd, hl, hw, shows .done b, shows .waits b) (order-sorted
+        (eqb x a && isDone (f b))
+        (eqb x b && (inSet left a && (not (eqb a b) || delayable p b)))
+        (inSet m x))
+
+    pub need-blocks : (n : ℕ) (g : Bool)
+        → r ≡ Need a b
+        → g ≡ inSet (v .gone) b
+        → inSet n x ≡ ((eqb x a && (ltb a 16 && g)) || inSet m x)
+        → Blocks n
+    unfolding bars follows
+    need-blocks n g is hg hn =
+        with-at m n a x g lt hn ∙ rw (is, hg, shows .gone b) (need-sorted (eqb x a && isGone (f b)) (inSet m x))
+
+    pub conditional-blocks : (c n k : ℕ) (g d e : Bool)
+        → r ≡ Conditional a b c
+        → g ≡ inSet (v .gone) c
+        → d ≡ inSet (v .done) b
+        → inSet k x ≡ ((eqb x a && (ltb a 16 && (g && d))) || inSet m x)
+        → e ≡ inSet (v .done) a
+        → inSet n x ≡ ((eqb x b && (ltb b 16 && (g && e))) || inSet k x)
+        → Blocks n
+    unfolding bars follows
+    conditional-blocks c n k g d e is hg hd hk he hn =
+        with-at k n b x (g && e) lt hn
+        ∙ rw (with-at m k a x (g && d) lt hk, is, hg, hd, he, shows .gone c, shows .done a, shows .done b)
+        (both-sorted (isGone (f c)) (eqb x a) (eqb x b) (isDone (f b)) (isDone (f a)) (inSet m x))

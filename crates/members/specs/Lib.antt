@@ -1,0 +1,4 @@
+-- What the private functions of a search promise. None of it has to be believed.
+pub mod Prelude
+pub mod Sets
+pub mod Growing

@@ -1,0 +1,6 @@
+// The events that have to be done together with one, and those that may not come next: sets as the bits of a number, and
+// one pass over the rules for each question. What it promises stands in specs/ here and in `orders`.
+pub mod blocked;
+pub mod closed;
+pub mod set;
+pub mod view;

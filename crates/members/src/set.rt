@@ -1,0 +1,57 @@
+// Sets of the sixteen events: a bit for each.
+ghost use mathlib.Core.Path.{_≡_};
+ghost use mathlib.Core.Bool.{not, _&&_, _||_};
+ghost use Prim.Native.Nat.{ℕ};
+ghost use lib.Dec.{eqb, ltb};
+ghost use Rattle.plan.specs.Base.{lowest};
+ghost use Rattle.members.specs.Sets.{inSet, orSixteen};
+
+// Is the event in the set?
+pub fn is_in(set: u32, event: u8) -> bool
+    ensures { λ r. ⌜ r ≡ inSet set event ⌝ }
+{
+    if event < 16 {
+        (set >> (event as u32)) & 1 == 1
+    } else {
+        false
+    }
+}
+
+// The set with one event more, where told to; past the places there is none.
+pub fn with_if(set: u32, event: u8, is: bool) -> u32
+    ensures { λ r. ⌜ ((x : ℕ) → inSet r x ≡ ((eqb x event && (ltb event 16 && is)) || inSet set x)) ⌝ }
+{
+    if is & (event < 16) {
+        set | (1u32 << (event as u32))
+    } else {
+        set
+    }
+}
+
+// The events of both sets.
+pub fn common(set: u32, other: u32) -> u32
+    ensures { λ r. ⌜ ((x : ℕ) → inSet r x ≡ (inSet set x && inSet other x)) ⌝ }
+{
+    set & other
+}
+
+// The events of one set that are not in the other.
+pub fn without(set: u32, other: u32) -> u32
+    ensures { λ r. ⌜ ((x : ℕ) → inSet r x ≡ (inSet set x && not (inSet other x))) ⌝ }
+{
+    set ^ (set & other)
+}
+
+// The lowest event of the set; 16 if there is none.
+pub fn lowest_of(set: u32) -> u8
+    ensures { λ r. ⌜ r ≡ orSixteen (lowest 16 (inSet set)) ⌝ }
+{
+    let mut e: u8 = 0;
+    while e < 16 {
+        if is_in(set, e) {
+            return e;
+        }
+        e += 1;
+    }
+    16
+}

@@ -1,0 +1,60 @@
+// The fates and attributes of the sixteen events as sets.
+use super::set::with_if;
+use plan::event::Event;
+use plan::event::is_delayable;
+use plan::event::is_forcible;
+use plan::fate::Standing;
+use plan::fate::is_done;
+use plan::fate::is_gone;
+use plan::fate::is_held;
+use plan::fate::is_open;
+ghost use mathlib.Core.Path.{_≡_};
+ghost use Rattle.plan.specs.Fates.{fatesOf};
+ghost use Rattle.plan.specs.Plans.{eventCount};
+ghost use Rattle.members.specs.Prelude.{Plan};
+ghost use Rattle.members.specs.Sets.{Shows};
+
+// The declared events that are held, the declared ones at hand (held, or open and forcible), those that are done,
+// those refused or lapsed, and those that may wait.
+pub struct View {
+    pub held: u32,
+    pub able: u32,
+    pub done: u32,
+    pub gone: u32,
+    pub waits: u32,
+}
+
+pub fn view_of(events: [Event; 16], count: u8, standings: [Standing; 16]) -> View
+    ensures { λ r. ⌜ ((p : Plan) → p .events ≡ events → eventCount p ≡ count → Shows p (fatesOf standings) r) ⌝ }
+{
+    let mut held: u32 = 0;
+    let mut able: u32 = 0;
+    let mut done: u32 = 0;
+    let mut gone: u32 = 0;
+    let mut waits: u32 = 0;
+    let mut e: u8 = 0;
+    while e < 16 {
+        let standing = standings[e as usize];
+        let fate = standing.fate;
+        let event = events[e as usize];
+        let attributes = event.attributes;
+        let is = is_held(fate);
+        held = with_if(held, e, (e < count) & is);
+        able = with_if(
+            able,
+            e,
+            (e < count) & (is | (is_open(fate) & is_forcible(attributes))),
+        );
+        done = with_if(done, e, is_done(fate));
+        gone = with_if(gone, e, is_gone(fate));
+        waits = with_if(waits, e, is_delayable(attributes));
+        e += 1;
+    }
+    View {
+        held,
+        able,
+        done,
+        gone,
+        waits,
+    }
+}

@@ -1,0 +1,61 @@
+-- The tests of rules, and the grounds on which they pass.
+use Prim.Native.Nat.{ℕ}
+use borrow.Author.Tests.{not-true, eq-eqb, eqb-true}
+use mathlib.Core.Bool.{Bool, true, false, not, _&&_, _||_}
+use mathlib.Core.Logic.{_⊎_, inl, inr}
+use mathlib.Core.Path.{_≡_, refl, sym}
+use lib.Dec.{eqb}
+use Rattle.orders.specs.Prelude.{Rule, Order, Need, Conditional, Plan}
+use Rattle.plan.specs.Fates.{Fates, isDone, isGone, isSettled}
+use Rattle.plan.specs.Plans.{delayable}
+use Rattle.plan.specs.Rules.{bars, makesWait, owes}
+use Rattle.orders.specs.Runs.{Bars, late, lost, second, other, Waits, waits, Owed, needed, called}
+use Rattle.plan.proofs.Tests.{and-left, and-right, and-both, or-either, or-right-true, clash}
+
+pub refuted : (b : Bool) → (b ≡ true → ⊥) → b ≡ false
+refuted true h = absurd (h refl)
+refuted false h = refl
+
+pub bars-grounds : (p : Plan) (f : Fates) (x : ℕ) (r : Rule) → bars p f r x ≡ true → Bars f x r
+unfolding bars
+bars-grounds p f x (Order a b) h = late (eqb-true x a (and-left (eqb x a) (isDone (f b)) h)) (and-right (eqb x a) (isDone (f b)) h)
+bars-grounds p f x (Need a b) h = lost (eqb-true x a (and-left (eqb x a) (isGone (f b)) h)) (and-right (eqb x a) (isGone (f b)) h)
+bars-grounds p f x (Conditional a b c) h =
+    let gone = and-left (isGone (f c)) ((eqb x a && isDone (f b)) || (eqb x b && isDone (f a))) h in
+    elim (or-either (eqb x a && isDone (f b)) (eqb x b && isDone (f a)) (and-right (isGone (f c)) _ h)) [
+      | inl t ↦ second (eqb-true x a (and-left (eqb x a) (isDone (f b)) t)) (and-right (eqb x a) (isDone (f b)) t) gone
+      | inr t ↦ other (eqb-true x b (and-left (eqb x b) (isDone (f a)) t)) (and-right (eqb x b) (isDone (f a)) t) gone
+    ]
+
+pub grounds-bar : (p : Plan) (f : Fates) (x : ℕ) (r : Rule) → Bars f x r → bars p f r x ≡ true
+unfolding bars
+grounds-bar p f x r (late {a = a} {b = b} q d) = rw (eq-eqb x a q, d)
+grounds-bar p f x r (lost {a = a} {b = b} q g) = rw (eq-eqb x a q, g)
+grounds-bar p f x r (second {a = a} {b = b} q d g) = rw (g, eq-eqb x a q, d)
+grounds-bar p f x r (other {a = a} {b = b} q d g) = rw (g, eq-eqb x b q, d) (or-right-true (eqb x a && isDone (f b)))
+
+pub wait-grounds : (p : Plan) (f : Fates) (x : ℕ) (r : Rule) → makesWait p f r x ≡ true → Waits p f x r
+unfolding makesWait
+wait-grounds p f x (Order a b) h =
+    let w = and-left (eqb x b && delayable p b) (not (isSettled (f a))) h in
+    waits (eqb-true x b (and-left (eqb x b) (delayable p b) w)) (and-right (eqb x b) (delayable p b) w) (not-true (isSettled (f a)) (and-right (eqb x b && delayable p b) (not (isSettled (f a))) h))
+wait-grounds p f x (Need a b) h = absurd (clash h refl)
+wait-grounds p f x (Conditional a b c) h = absurd (clash h refl)
+
+pub grounds-wait : (p : Plan) (f : Fates) (x : ℕ) (r : Rule) → Waits p f x r → makesWait p f r x ≡ true
+unfolding makesWait
+grounds-wait p f x r (waits {a = a} {b = b} q d u) = rw (eq-eqb x b q, d, u)
+
+pub owes-grounds : (p : Plan) (f : Fates) (r : Rule) → owes p f r ≡ true → Owed f r
+unfolding owes
+owes-grounds p f (Order a b) h = absurd (clash h refl)
+owes-grounds p f (Need a b) h =
+    needed (and-left (isDone (f a)) (not (isSettled (f b))) h) (not-true (isSettled (f b)) (and-right (isDone (f a)) (not (isSettled (f b))) h))
+owes-grounds p f (Conditional a b c) h =
+    let w = and-left (isDone (f a) && isDone (f b)) (not (isSettled (f c))) h in
+    called (and-left (isDone (f a)) (isDone (f b)) w) (and-right (isDone (f a)) (isDone (f b)) w) (not-true (isSettled (f c)) (and-right (isDone (f a) && isDone (f b)) (not (isSettled (f c))) h))
+
+pub grounds-owe : (p : Plan) (f : Fates) (r : Rule) → Owed f r → owes p f r ≡ true
+unfolding owes
+grounds-owe p f r (needed d u) = rw (d, u)
+grounds-owe p f r (called d e u) = rw (d, e, u)

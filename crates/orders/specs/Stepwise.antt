@@ -1,0 +1,42 @@
+-- The order that takes, over and over, the lowest event of a set that may come next.
+use Rattle.orders.specs.Prelude.{ℕ, zero, suc, _<_, Bool, true, false, not, _&&_, _||_, cond, List, [], _∷_, _≢_, _⊎_, Option, none, some, Option·map, _≡_, eqb, Rule, Order, Need, Conditional, Plan}
+use Rattle.plan.specs.Base.{anyBelow, when, lowest}
+use Rattle.plan.specs.Fates.{Fates}
+use Rattle.plan.specs.Plans.{ruleCount, ruleAt, delayable}
+use Rattle.plan.specs.Rules.{bars}
+use Rattle.orders.specs.Closed.{Events}
+use Rattle.orders.specs.Runs.{doing}
+
+-- x comes after another event of m, which would be barred once x is done; or it waits for itself
+unfoldable pub follows : Plan → Events → Rule → ℕ → Bool
+follows p m (Order a b) x = eqb x b && (m a && (not (eqb a b) || delayable p b))
+follows p m (Need a b) x = false
+follows p m (Conditional a b c) x = false
+
+-- some rule that stands is against doing x for good, or puts another event of m before it
+unfoldable pub blocked : Plan → (ℕ → Bool) → Fates → Events → ℕ → Bool
+blocked p l f m x =
+    anyBelow (ruleCount p) (λ i. l i && (bars p f (ruleAt p i) x || follows p m (ruleAt p i) x))
+
+-- the set without x
+abbrev pub less : Events → ℕ → Events
+less m x y = m y && not (eqb y x)
+
+-- no event is left
+unfoldable pub nothing : Events → Bool
+nothing m = not (anyBelow 16 m)
+
+-- the lowest event of the set that is not blocked
+unfoldable pub next : Plan → (ℕ → Bool) → Fates → Events → Option ℕ
+next p l f m = lowest 16 (λ x. m x && not (blocked p l f m x))
+
+-- the events of the set, always the lowest that is not blocked next; none where all are, or there are more than k
+unfoldable pub stepwise : Plan → (ℕ → Bool) → ℕ → Fates → Events → Option (List ℕ)
+stepwise p l zero f m = when (nothing m) (some [])
+stepwise p l (suc k) f m = elim (nothing m) [
+  | true ↦ some []
+  | false ↦ elim (next p l f m) [
+    | none ↦ none
+    | some x ↦ Option·map (λ o. x ∷ o) (stepwise p l k (doing f x) (less m x))
+  ]
+]

@@ -1,0 +1,218 @@
+-- Viable orders and least closed sets: every viable order for an event has all of the least set, cut down to it an order
+-- stays viable, and the chosen order takes always the lowest event of the set that is not blocked.
+use Prim.Native.Nat.{ℕ, _≤_, _<_}
+use native.Mathlib.Omega.{arith}
+use native.Mathlib.Decide.{ℕ-discrete}
+use borrow.Author.Tests.{not-true, eq-eqb, eqb-true}
+use mathlib.Core.Bool.{Bool, true, false, not, _&&_, _||_}
+use mathlib.Core.List.{List, [], _∷_, List·Memᴰ, List·Memᴰ·cases-cons, List·Memᴰ·not-nil, List·Memᴰ·head, List·Memᴰ·tail}
+use mathlib.Core.Logic.{_≢_, _⊎_, inl, inr}
+use mathlib.Core.Option.{Option, none, some}
+use mathlib.Core.Path.{_≡_, refl, sym, _∙_, ap, subst, fun-ext}
+use lib.Dec.{eqb}
+use lib.ListN.{length}
+use Rattle.scheduler.specs.Prelude.{Fate, Done, Rule, Plan, State}
+use Rattle.plan.specs.Base.{anyBelow, among, countBelow}
+use Rattle.plan.specs.Fates.{Fates, isSettled}
+use Rattle.plan.specs.Plans.{eventCount, ruleCount, ruleAt}
+use Rattle.plan.specs.Rules.{bars, makesWait, forbids, owes, ready}
+use Rattle.orders.specs.Closed.{Events, Stands, Closed, Fit, Least}
+use Rattle.orders.specs.Runs.{doing, Bars, Waits, Owed, May, Run}
+use Rattle.orders.specs.Stepwise.{stepwise}
+use Rattle.orders.specs.Sequences.{Ahead}
+use Rattle.scheduler.specs.State.{fateOf, settleAs, Sized}
+use Rattle.scheduler.specs.Rules.{stands, forbidden, owing}
+use Rattle.scheduler.specs.Orders.{mayDo, doOne, Runs, Viable, First, chosen}
+use Rattle.scheduler.specs.Internal.Hopeful.{Hopeful}
+use Rattle.plan.proofs.Tests.{and-left, and-right, and-both, and-not, or-left, or-right, or-both, clash, either, any-false, any-none}
+use Rattle.orders.proofs.Grounds.{refuted, bars-grounds, grounds-bar, wait-grounds, grounds-wait, owes-grounds, grounds-owe}
+use Rattle.orders.proofs.Doing.{doing-same, doing-other}
+use Rattle.orders.proofs.Running.{inside, among-head, among-tail, among-cases, among-none, run-ready, run-closed, count-inside}
+use Rattle.orders.proofs.Cutting.{keep, run-keep, keep-length, keep-member, keep-all}
+use Rattle.orders.proofs.Taking.{Ready, Sound, sound, Made, Taken, complete}
+use Rattle.scheduler.proofs.Laws.{sized-one, fate-settle-same, fate-settle-other}
+use Rattle.scheduler.proofs.Searching.{hand-bound, ready-bound, runs-differ, ahead-both, chosen-none, chosen-first}
+
+-- an event stands in an order, as a test
+pub mem-among : {x : ℕ} (o : List ℕ) → List·Memᴰ x o → among x o ≡ true
+mem-among [] m = absurd (List·Memᴰ·not-nil m)
+mem-among {x} (c ∷ o) m = elim (List·Memᴰ·cases-cons m) [ inl q ↦ among-head x c o q | inr t ↦ among-tail x c o (mem-among o t) ]
+
+pub among-mem : (x : ℕ) (o : List ℕ) → among x o ≡ true → List·Memᴰ x o
+among-mem x [] h = absurd (among-none x h)
+among-mem x (c ∷ o) h = elim (among-cases x c o h) [ inl q ↦ List·Memᴰ·head q | inr t ↦ List·Memᴰ·tail (among-mem x o t) ]
+
+-- a test over the rules that stand fails just where it fails of each
+module _ (s : State) (t : Rule → Bool) where
+  each-fails : anyBelow (ruleCount (s .plan)) (λ i. stands s i && t (ruleAt (s .plan) i)) ≡ false
+      → (r : Rule)
+      → Stands (s .plan) (stands s) r
+      → t r ≡ false
+  each-fails h r st =
+      subst (λ (z : Rule). t z ≡ false) (st .is) (and-not (stands s (st .place)) (t (ruleAt (s .plan) (st .place))) (any-false (ruleCount (s .plan)) _ h (st .place) (st .within)) (st .unbroken))
+
+  all-fail : ((r : Rule) → Stands (s .plan) (stands s) r → t r ≡ false)
+      → anyBelow (ruleCount (s .plan)) (λ i. stands s i && t (ruleAt (s .plan) i)) ≡ false
+  all-fail h = any-none (ruleCount (s .plan)) _ (λ i lt. go i lt (stands s i) refl)
+    where
+      go : (i : ℕ) → i < ruleCount (s .plan) → (b : Bool) → stands s i ≡ b → (stands s i && t (ruleAt (s .plan) i)) ≡ false
+      go i lt true e = rw e (h (ruleAt (s .plan) i) (record { place = i; within = lt; unbroken = e; is = refl }))
+      go i lt false e = rw e
+
+-- an event may be done, in the words of grounds
+module _ (s : State) (c : ℕ) where
+  may-grounds : c < eventCount (s .plan) → mayDo s c ≡ true → May (s .plan) (stands s) (fateOf s) c
+  unfolding mayDo forbidden forbids
+  may-grounds lt h =
+      let free = each-fails s (λ r. forbids (s .plan) (fateOf s) r c) (not-true (forbidden s c) (and-right (ready (s .plan) (fateOf s) c) (not (forbidden s c)) h)) in
+      record {
+        declared = lt;
+        at-hand = and-left (ready (s .plan) (fateOf s) c) (not (forbidden s c)) h;
+        unbarred = λ r st b. clash (grounds-bar (s .plan) (fateOf s) c r b) (or-left (bars (s .plan) (fateOf s) r c) (makesWait (s .plan) (fateOf s) r c) (free r st));
+        unwaiting = λ r st w. clash (grounds-wait (s .plan) (fateOf s) c r w) (or-right (bars (s .plan) (fateOf s) r c) (makesWait (s .plan) (fateOf s) r c) (free r st));
+      }
+
+  grounds-may : May (s .plan) (stands s) (fateOf s) c → mayDo s c ≡ true
+  unfolding mayDo forbidden forbids
+  grounds-may m =
+      and-both (ready (s .plan) (fateOf s) c) (not (forbidden s c)) (m .at-hand) (ap not (all-fail s (λ r. forbids (s .plan) (fateOf s) r c) (λ r st. or-both (bars (s .plan) (fateOf s) r c) (makesWait (s .plan) (fateOf s) r c) (refuted _ (λ t. m .unbarred r st (bars-grounds (s .plan) (fateOf s) c r t))) (refuted _ (λ t. m .unwaiting r st (wait-grounds (s .plan) (fateOf s) c r t))))))
+
+-- the fates after an event is done
+pub fates-one : (s : State) (c : ℕ) → Sized s → c < 16 → fateOf (doOne s c) ≡ doing (fateOf s) c
+fates-one s c z lt = fun-ext (λ x. elim (ℕ-discrete x c) [
+  | yes q ↦ subst (λ (v : ℕ). fateOf (doOne s c) v ≡ Done) (sym q) (fate-settle-same Done s c z lt) ∙ sym (doing-same (fateOf s) c x q)
+  | no ne ↦ fate-settle-other Done s c x ne ∙ sym (doing-other (fateOf s) c x ne)
+])
+
+module _ (s : State) (c : ℕ) (o : List ℕ) (z : Sized s) (lt : c < 16) where
+  run-after : Run ((doOne s c) .plan) (stands (doOne s c)) (fateOf (doOne s c)) o → Run (s .plan) (stands s) (doing (fateOf s) c) o
+  unfolding settleAs
+  run-after run = subst (λ (f : Fates). Run (s .plan) (stands s) f o) (fates-one s c z lt) run
+
+  after-run : Run (s .plan) (stands s) (doing (fateOf s) c) o → Run ((doOne s c) .plan) (stands (doOne s c)) (fateOf (doOne s c)) o
+  unfolding settleAs
+  after-run run = subst (λ (f : Fates). Run (s .plan) (stands s) f o) (sym (fates-one s c z lt)) run
+
+-- orders of a state, in the words of its plan and fates
+pub run-of : (s : State) → Sized s → (o : List ℕ) → Runs s o → Run (s .plan) (stands s) (fateOf s) o
+unfolding owing
+run-of s z [] h =
+    λ r st w. clash (grounds-owe (s .plan) (fateOf s) r w) (each-fails s (λ u. owes (s .plan) (fateOf s) u) h r st)
+run-of s z (c ∷ o) h =
+    (may-grounds s c (h .0) (h .1), run-after s c o z (ready-bound s c (h .1)) (run-of (doOne s c) (sized-one s c z) o (h .2)))
+
+pub of-run : (s : State) → Sized s → (o : List ℕ) → Run (s .plan) (stands s) (fateOf s) o → Runs s o
+unfolding owing
+of-run s z [] h =
+    all-fail s (λ u. owes (s .plan) (fateOf s) u) (λ r st. refuted _ (λ t. h r st (owes-grounds (s .plan) (fateOf s) r t)))
+of-run s z (c ∷ o) h =
+    let may = grounds-may s c (h .0) in
+    (h .0 .declared, may, of-run (doOne s c) (sized-one s c z) o (after-run s c o z (ready-bound s c may) (h .1)))
+
+-- for any closed set with e
+module _ (s : State) (z : Sized s) (e : ℕ) (m : Events) (cl : Closed (s .plan) (stands s) (fateOf s) m) (has : m e ≡ true) where
+  -- an order cut down to it stays viable
+  pub cut-viable : (o : List ℕ) → Viable s e o → Viable s e (keep m o)
+  cut-viable o v =
+      let r = of-run s z (keep m o) (run-keep (s .plan) (stands s) m (fateOf s) cl o (run-of s z o (v .runs))) in
+      record {
+        contains = among-mem e (keep m o) (keep-member m o e has (mem-among o (v .contains)));
+        short = omega (arith, v .short, keep-length m o);
+        different = runs-differ s z (keep m o) r;
+        runs = r;
+      }
+
+  -- so a shortest viable order lies in it
+  pub shortest-within : (o : List ℕ)
+      → Viable s e o
+      → ((q : List ℕ) → Viable s e q → length o ≤ length q)
+      → (x : ℕ)
+      → among x o ≡ true
+      → m x ≡ true
+  shortest-within o v h = keep-all m o (h (keep m o) (cut-viable o v))
+
+-- the events of a viable order are closed
+pub viable-closed : (s : State) (e : ℕ) → Sized s → (o : List ℕ) → Viable s e o → Closed (s .plan) (stands s) (fateOf s) (inside o)
+viable-closed s e z o v = run-closed (s .plan) (stands s) (fateOf s) o (run-of s z o (v .runs))
+
+-- an event of a viable order has that order
+pub viable-for : {s : State} {e : ℕ} (o : List ℕ) → Viable s e o → (x : ℕ) → among x o ≡ true → Viable s x o
+viable-for o v x h = record { contains = among-mem x o h; short = v .short; different = v .different; runs = v .runs }
+
+pub first-shortest : (s : State) (e : ℕ) (o : List ℕ) → First s e o → (q : List ℕ) → Viable s e q → length o ≤ length q
+first-shortest s e o f q v = elim (f .least q v) [ inl lt ↦ omega arith | inr w ↦ omega (arith, w .0) ]
+
+-- every event of a viable order may have one
+pub hopeful-every : (s : State) → Sized s → (able : Events) → Hopeful s able → (e : ℕ) (o : List ℕ) → Viable s e o → (x : ℕ) → among x o ≡ true → able x ≡ true
+hopeful-every s z able k e o v x h = elim (either (able x)) [
+  | inl t ↦ t
+  | inr f ↦
+      let w = run-ready (s .plan) (stands s) (fateOf s) o (run-of s z o (v .runs)) x h in
+      absurd (chosen-none s x (k .others x (w .0) (w .1) f) o (viable-for o v x h))
+]
+
+module _ (s : State) (z : Sized s) (e : ℕ) (able : Events) (k : Hopeful s able) where
+  low-able : (x : ℕ) → able x ≡ true → x < 16
+  low-able x h = hand-bound s x (k .hand x h .1)
+
+  abbrev Fits : Events → Type 0
+  Fits = Fit (s .plan) (stands s) (fateOf s) able e
+
+  -- the events of a viable order are closed, able, and at most six
+  pub viable-fit : (o : List ℕ) → Viable s e o → Fits (inside o)
+  viable-fit o v = record {
+    contains = mem-among o (v .contains);
+    closed = viable-closed s e z o v;
+    ables = hopeful-every s z able k e o v;
+    few = omega (arith, v .short, count-inside 16 o);
+  }
+
+  none-chosen : ((o : List ℕ) → Viable s e o → ⊥) → chosen s e ≡ none
+  none-chosen n = go (chosen s e) refl
+    where
+      go : (x : Option (List ℕ)) → chosen s e ≡ x → chosen s e ≡ none
+      go none q = q
+      go (some o) q = absurd (n o (chosen-first s e z o q .viable))
+
+  -- where no set would do, no order is viable
+  pub no-fit-none : ((m : Events) → Fits m → ⊥) → chosen s e ≡ none
+  no-fit-none h = none-chosen (λ o v. h (inside o) (viable-fit o v))
+
+  module _ (m : Events) (least : Least (s .plan) (stands s) (fateOf s) able e m) where
+    -- any viable order contains the least set
+    pub least-inside : (o : List ℕ) → Viable s e o → (x : ℕ) → m x ≡ true → among x o ≡ true
+    least-inside o v = least .least (inside o) (viable-fit o v)
+
+    ready-set : Ready (s .plan) (stands s) (fateOf s) m
+    ready-set = record { hand = λ x t. k .hand x (least .fit .ables x t); low = λ x t. low-able x (least .fit .ables x t) }
+
+    -- what is taken step by step is viable
+    taken-viable : (o : List ℕ) → stepwise (s .plan) (stands s) 6 (fateOf s) m ≡ some o → Viable s e o
+    taken-viable o h =
+        let u = sound (s .plan) (stands s) 6 (fateOf s) m o h (least .fit .closed) ready-set in
+        let r = of-run s z o (u .runs) in
+        record {
+          contains = among-mem e o (u .whole e (least .fit .contains));
+          short = u .short;
+          different = runs-differ s z o r;
+          runs = r;
+        }
+
+    taken-first : (o : List ℕ) → First s e o → stepwise (s .plan) (stands s) 6 (fateOf s) m ≡ some o
+    taken-first o f =
+        let v = f .viable in
+        let t = complete (s .plan) (stands s) 6 (fateOf s) m o (record { runs = run-of s z o (v .runs); within = shortest-within s z e m (least .fit .closed) (least .fit .contains) o v (first-shortest s e o f); whole = least-inside o v; low = λ x h. low-able x (least .fit .ables x h) }) (v .short) in
+        let same : t .order ≡ o = elim (f .least (t .order) (taken-viable (t .order) (t .gives))) [
+          | inl lt ↦ absurd (omega (arith, t .long))
+          | inr w ↦ ahead-both (t .order) o (t .long) (t .ahead) (w .1)
+        ] in
+        t .gives ∙ ap {B = Option (List ℕ)} some same
+
+    -- the chosen order is what is taken step by step
+    pub chosen-taken : chosen s e ≡ stepwise (s .plan) (stands s) 6 (fateOf s) m
+    chosen-taken = go (chosen s e) refl (stepwise (s .plan) (stands s) 6 (fateOf s) m) refl
+      where
+        go : (x : Option (List ℕ)) → chosen s e ≡ x → (y : Option (List ℕ)) → stepwise (s .plan) (stands s) 6 (fateOf s) m ≡ y → chosen s e ≡ stepwise (s .plan) (stands s) 6 (fateOf s) m
+        go (some o) q y w = q ∙ sym (taken-first o (chosen-first s e z o q))
+        go none q none w = q ∙ sym w
+        go none q (some o) w = absurd (chosen-none s e q o (taken-viable o w))

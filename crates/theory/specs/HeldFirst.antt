@@ -1,0 +1,40 @@
+-- Held events first: the search that looks at orders without forced events before the others.
+use Prim.Native.Nat.{ℕ, _≤_, _<_}
+use mathlib.Core.Bool.{Bool, true, false}
+use mathlib.Core.List.{List}
+use mathlib.Core.Option.{Option}
+use mathlib.Core.Path.{_≡_}
+use lib.ListN.{length}
+use Rattle.scheduler.specs.declared.state.State.{State}
+use Rattle.plan.specs.Base.{firstOf, orElse}
+use Rattle.plan.specs.Fates.{isHeld}
+use Rattle.plan.specs.Plans.{eventCount}
+use Rattle.plan.specs.Rules.{ready}
+use Rattle.orders.specs.Closed.{Events}
+use Rattle.orders.specs.Leasts.{leastSet}
+use Rattle.scheduler.specs.State.{fateOf}
+use Rattle.scheduler.specs.Rules.{stands}
+use Rattle.scheduler.specs.Orders.{Viable, orderOf}
+
+-- a viable order for e, and none is shorter
+pub record Shortest (s : State) (e : ℕ) (o : List ℕ) : Type 0 where
+  pub viable : Viable s e o
+  pub least : (q : List ℕ) → Viable s e q → length o ≤ length q
+
+-- length by length: of the orders that pass the test the first, else of all orders the first
+unfoldable pub firstAmong : (ℕ → Bool) → State → ℕ → Option (List ℕ)
+firstAmong candidate s e = firstOf 6 1 (λ k.
+    let all = orderOf (λ c. true) k s e false in
+    orElse (orderOf candidate k s e false) all)
+
+-- the orders of events that are held in s, before those in which an open event is forced
+unfoldable pub heldFirst : State → ℕ → Option (List ℕ)
+heldFirst s e = firstAmong (λ c. isHeld (fateOf s c)) s e
+
+-- the least closed set with e: the events that have to be done with it
+abbrev pub members : State → ℕ → Events
+members s e = leastSet (s .plan) (stands s) (fateOf s) e
+
+-- the event is declared and at hand
+abbrev pub AtHand : State → ℕ → Type 0
+AtHand s x = (x < eventCount (s .plan)) × (ready (s .plan) (fateOf s) x ≡ true)

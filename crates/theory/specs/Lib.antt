@@ -1,0 +1,2 @@
+-- What the theorems say that no function promises.
+pub mod HeldFirst
