@@ -14,7 +14,7 @@ runner=$(cd "$(dirname "$runner")" && pwd)/$(basename "$runner")
 
 count=0
 differences=0
-for folder in "$examples"/[A-L] "$examples"/[A-L]/*/; do
+for folder in "$examples"/*/ "$examples"/*/*/; do
     if [ ! -f "$folder/sheet.bin" ]; then
         continue
     fi
