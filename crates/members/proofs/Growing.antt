@@ -9,25 +9,16 @@ use mathlib.Core.Logic.{_⊎_, inl, inr, ⊎-elim}
 use mathlib.Core.Path.{_≡_, refl, sym, _∙_, ap}
 use lib.Dec.{eqb, ltb}
 use Rattle.plan.specs.declared.rule.Rule.the-variants.{Order, Need, Conditional}
-use Rattle.plan.specs.Base.{oneIf, countBelow}
-use Rattle.plan.specs.Fates.{Fates, isDone, isSettled}
+use Rattle.plan.specs.Base.{countBelow}
+use Rattle.plan.specs.Fates.{Fates, isSettled}
 use Rattle.plan.specs.Plans.{ruleCount, ruleAt, delayable}
 use Rattle.plan.proofs.Tests.{and-left, and-right, and-both, and-not, or-either, or-right-true, clash, count-more, count-zero}
-use Rattle.orders.specs.Closed.{Events, Stands, Has, Wants, first, one, both, Closed, asks, target, Fit}
+use Rattle.orders.specs.Closed.{Events, Stands, Wants, Closed, asks, target, Fit}
+use Rattle.orders.proofs.Closure.{count-within, asks-wants, wants-asks, wants-unsettled, wants-more}
 use Rattle.members.specs.Prelude.{Rule, Plan, Members}
 use Rattle.members.specs.Sets.{inSet}
 use Rattle.members.specs.Growing.{lacks, Added, stays, fails, grows, Sure, NoFit, Passed, Closes}
 use Rattle.members.proofs.Bits.{in-zero, in-below}
-
--- counting: a set within another, and one event more
-one-within : (a b : Bool) → (a ≡ true → b ≡ true) → oneIf a ≤ oneIf b
-one-within true b h = rw (h refl) (omega arith)
-one-within false b h = omega arith
-
-pub count-within : (k : ℕ) (m n : Events) → ((x : ℕ) → m x ≡ true → n x ≡ true) → countBelow k m ≤ countBelow k n
-unfolding countBelow
-count-within zero m n h = omega arith
-count-within (suc k) m n h = omega (arith, count-within k m n h, one-within (m k) (n k) (h k))
 
 -- n is m with t, which was not in m
 module _ (m n : Events) (t : ℕ) (is : (x : ℕ) → n x ≡ (eqb x t || m x)) where
@@ -48,44 +39,12 @@ module _ (m n : Events) (t : ℕ) (is : (x : ℕ) → n x ≡ (eqb x t || m x)) 
   pub count-one : t < 16 → m t ≡ false → countBelow 16 n ≡ suc (countBelow 16 m)
   count-one lt out = count-more 16 m n t lt out one-in (λ x ne. sym (is x ∙ rw (ne-eqb x t ne)))
 
--- what a rule wants, as a test and as a ground
-has-either : (f : Fates) (m n : Events) (a : ℕ)
-    → ((x : ℕ) → m x ≡ true → n x ≡ true)
-    → (m a || isDone (f a)) ≡ true
-    → Has f n a
-has-either f m n a sub h = elim (or-either (m a) (isDone (f a)) h) [ inl x ↦ inl (sub a x) | inr x ↦ inr x ]
-
-has-test : (f : Fates) (m : Events) (a : ℕ) → Has f m a → (m a || isDone (f a)) ≡ true
-has-test f m a (inl h) = rw h
-has-test f m a (inr h) = rw h (or-right-true (m a))
-
+-- what a rule lacks
 itself : (a b c : Bool) → (((a && b) && c) && not a) ≡ false
 itself true b c = and-false (b && c)
 itself false b c = refl
 
 module _ (p : Plan) (f : Fates) where
-  -- in a bigger set it wants it too
-  pub asks-wants : (m n : Events) (r : Rule)
-      → ((x : ℕ) → m x ≡ true → n x ≡ true)
-      → asks p f m r ≡ true
-      → isSettled (f (target r)) ≡ false
-      → Wants p f n r
-  unfolding asks
-  asks-wants m n (Order a b) sub h unsettled = first (sub b (and-left (m b) _ h)) (and-right (m b) _ h) unsettled
-  asks-wants m n (Need a b) sub h unsettled = one (has-either f m n a sub h) unsettled
-  asks-wants m n (Conditional a b c) sub h unsettled =
-      both
-      (has-either f m n a sub (and-left (m a || isDone (f a)) _ h))
-      (has-either f m n b sub (and-right (m a || isDone (f a)) _ h))
-      unsettled
-
-  pub wants-asks : (m : Events) (r : Rule) → Wants p f m r → (asks p f m r ≡ true) × (isSettled (f (target r)) ≡ false)
-  unfolding asks
-  wants-asks m r (first h d unsettled) = (and-both _ _ h d, unsettled)
-  wants-asks m r (one h unsettled) = (has-test f m _ h, unsettled)
-  wants-asks m r (both h k unsettled) = (and-both _ _ (has-test f m _ h) (has-test f m _ k), unsettled)
-
-  -- what a rule lacks
   module _ (m : Events) (r : Rule) where
     abbrev wanted : Bool
     wanted = asks p f m r && not (isSettled (f (target r)))
@@ -106,8 +65,7 @@ module _ (p : Plan) (f : Fates) where
     pub lacks-nothing : lacks p f m r ≡ false → Wants p f m r → m (target r) ≡ true
     unfolding lacks
     lacks-nothing h w =
-        let k = wants-asks m r w in
-        not-false _ (and-not wanted _ h (and-both _ _ (k .0) (rw (k .1))))
+        not-false _ (and-not wanted _ h (and-both _ _ (wants-asks p f m r w) (rw (wants-unsettled w))))
 
   -- the blank rule lacks nothing: it asks for its own b
   pub lacks-blank : (m : Events) → lacks p f m (Order 0 0) ≡ false
@@ -122,7 +80,7 @@ module _ (p : Plan) (f : Fates) where
       → lacks p f m r ≡ true
       → n (target r) ≡ true
   within-fit l m n r sub closed stands h =
-      closed r stands (asks-wants m n r sub (lacks-asks m r h) (lacks-open m r h))
+      closed r stands (wants-more n sub (asks-wants p f m r (lacks-asks m r h) (lacks-open m r h)))
 
 -- the events that may be members are those of a set of sixteen
 module _ (p : Plan) (l : ℕ → Bool) (f : Fates) (able e : ℕ) where
@@ -162,7 +120,7 @@ module _ (p : Plan) (l : ℕ → Bool) (f : Fates) (able e : ℕ) where
     not-seventh k fit h full =
         let below : target r < 16 = in-below able (target r) (fit .ables (target r) (needed k fit h)) in
         let seven = count-one old wider (target r) (λ _. refl) below (lacks-out p f old r h) in
-        omega (arith, seven, count-within 16 wider k (wider-within k fit h), fit .few, sure .counted)
+        omega (arith, seven, count-within 16 wider k (λ x lt. wider-within k fit h x), fit .few, sure .counted)
 
     -- the members after it, if there are any, and that there are none
     pub added-sure : Added p f (inSet able) m r n → n .ok ≡ true → Surely n

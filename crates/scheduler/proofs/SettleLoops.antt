@@ -188,8 +188,8 @@ module _ (s : State) (e : ℕ) where
     pub doing-some : isHeld (fateOf s e) ≡ true → r .ok ≡ true → doing ≡ some (take (r .len) (r .events))
     doing-some h t = let f = order-found s e r same t in rw (h, f .1, f .2)
 
-    pub doing-missing : isHeld (fateOf s e) ≡ true → r .ok ≡ false → doing ≡ none
-    doing-missing h f = rw (h, order-missing s e r same f)
+  pub doing-hopeless : isHeld (fateOf s e) ≡ true → chosen s e ≡ none → doing ≡ none
+  doing-hopeless h q = rw (h, q)
 
   pub doing-none : isHeld (fateOf s e) ≡ false → doing ≡ none
   doing-none h = rw h

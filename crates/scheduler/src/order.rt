@@ -17,7 +17,6 @@ ghost use Rattle.orders.specs.Stepwise.{stepwise};
 ghost use Rattle.scheduler.specs.State.{fateOf};
 ghost use Rattle.scheduler.specs.Rules.{stands};
 ghost use Rattle.scheduler.specs.Orders.{doOne, chosen, foundOrder};
-ghost use Rattle.scheduler.specs.Internal.Hopeful.{Hopeful};
 ghost use Rattle.scheduler.specs.Internal.Placed.{foundFrom};
 
 // What a search for an order finds: the order's events from the front, zeros after them, and its length.
@@ -33,32 +32,31 @@ impl State {
         ensures { λ r. ⌜ r ≡ foundOrder (chosen self event) ⌝ }
     {
         let view = self.view();
-        self.find_among(view, view.able, event)
-    }
-
-    // The chosen order for the event, where events at hand that are not in `able` are known to have none. Its members
-    // are searched as held events where all of them are held, and else with those that have to be forced.
-    pub(crate) fn find_among(self, view: View, able: u32, event: u8) -> Found
-        requires { ⌜ (Shows (self .plan) (fateOf self) view × Hopeful self (inSet able)) ⌝ }
-        ensures { λ r. ⌜ r ≡ foundOrder (chosen self event) ⌝ }
-    {
         let plan = self.plan;
         let rules = plan.rules;
         let broken = self.broken;
-        let members = close_set(rules, broken, plan.rule_count, view, able, event);
-        if !members.ok {
-            let blank = [0; 6];
-            return Found {
-                ok: false,
-                events: blank,
-                len: 0,
-            };
+        let members = close_set(rules, broken, plan.rule_count, view, view.able, event);
+        if members.ok {
+            return self.find_among(view, members.set);
         }
-        let held = common(members.set, view.held);
-        if held == members.set {
+        let blank = [0; 6];
+        Found {
+            ok: false,
+            events: blank,
+            len: 0,
+        }
+    }
+
+    // The order of the members. An order in which no open event is forced has to do with held members alone, and there
+    // is one only where all of them are held; else the others are forced.
+    pub(crate) fn find_among(self, view: View, members: u32) -> Found
+        ensures { λ r. ⌜ r ≡ foundFrom 0 (stepwise (self .plan) (stands self) 6 (fateOf self) (inSet members)) ⌝ }
+    {
+        let held = common(members, view.held);
+        if held == members {
             return search(self, held, 0, 6);
         }
-        search(self, members.set, 0, 6)
+        search(self, members, 0, 6)
     }
 
     // What a search asks of the state again and again, as sets.

@@ -2,6 +2,7 @@
 use super::order::Found;
 use super::state::State;
 use members::blocked::blocked_in;
+use members::closed::close_set;
 use members::set::common;
 use members::set::is_in;
 use members::set::lowest_of;
@@ -88,17 +89,23 @@ impl State {
         ensures { λ r. ⌜ r ≡ turnOf self (Option·map (doAll self) (toDo self)) ⌝ }
     {
         let plan = self.plan;
+        let rules = plan.rules;
+        let broken = self.broken;
+        let count = plan.rule_count;
         let n = plan.event_count;
         let mut able = view.able;
         let mut e: u8 = 0;
         while e < n {
             if is_in(view.held, e) {
-                let found = self.find_among(view, able, e);
-                if found.ok {
-                    return Turned {
-                        moved: true,
-                        state: self.do_order(found),
-                    };
+                let members = close_set(rules, broken, count, view, able, e);
+                if members.ok {
+                    let found = self.find_among(view, members.set);
+                    if found.ok {
+                        return Turned {
+                            moved: true,
+                            state: self.do_order(found),
+                        };
+                    }
                 }
                 able = without(able, with_if(0, e, true));
             }

@@ -2,35 +2,42 @@
 -- count no more as able have no order.
 use Prim.Native.Nat.{ℕ, _≤_, _-_}
 use native.Mathlib.Omega.{arith}
-use mathlib.Core.Logic.{⊎-elim}
 use mathlib.Core.Bool.{true, false}
-use mathlib.Core.Path.{sym, _∙_, subst}
+use mathlib.Core.Logic.{⊎-elim}
+use mathlib.Core.Option.{none}
+use mathlib.Core.Path.{_≡_, refl, sym, _∙_, subst}
 use Rattle.plan.specs.Plans.{eventCount}
 use Rattle.members.specs.Sets.{inSet}
-use Rattle.scheduler.specs.Orders.{doAll}
+use Rattle.scheduler.specs.State.{fateOf}
+use Rattle.scheduler.specs.Orders.{doAll, chosen, noOrder}
 use Rattle.scheduler.specs.Calls.{toDo}
 use Rattle.scheduler.specs.Internal.Hopeful.{Hopeful}
 use Rattle.plan.proofs.Loops.{Rest, rest-all, rest-next}
 use Rattle.members.proofs.Bits.{in-below}
-use Rattle.scheduler.proofs.SearchLoops.{hopeful-all, hopeful-less}
-use Rattle.scheduler.proofs.SettleLoops.{turn-made, turn-none, held-seen, order-missing, doing, doing-some, doing-missing, doing-none}
+use Rattle.scheduler.proofs.Sizes.{sized}
+use Rattle.scheduler.proofs.SearchLoops.{members-none, members-found, hopeful-all, hopeful-less}
+use Rattle.scheduler.proofs.SettleLoops.{turn-made, turn-none, held-seen, order-missing, doing, doing-some, doing-hopeless, doing-none}
 use Rattle.scheduler.proofs.state.State.do_chosen.Statement.{statement}
 use Rattle.scheduler.proofs.state.State.do_chosen.Tie as tie
 
 abbrev Inv-loop : tie.InvT-loop
-Inv-loop self view n able₀ e₀ able e = (e ≤ n) × Rest (eventCount (self .plan)) (doing self) e × Hopeful self (inSet able)
+Inv-loop self view rules broken count n able₀ e₀ able e =
+    (e ≤ n) × Rest (eventCount (self .plan)) (doing self) e × Hopeful self (inSet able)
 
 abbrev μ-loop : tie.MeasureT-loop
-μ-loop self view n able₀ e₀ able e = n - e
+μ-loop self view rules broken count n able₀ e₀ able e = n - e
 
 loop-holds : tie.Need-loop-holds Inv-loop μ-loop
-loop-holds c = (omega arith, rest-all _ _, hopeful-all _ _ (c .before .pre))
+loop-holds c = (omega arith, rest-all _ _, hopeful-all _ _ (c .before .before .before .pre))
 
 is-in-requires : tie.Need-is-in-requires Inv-loop μ-loop
 is-in-requires c κs = tt
 
+close-set-requires : tie.Need-close-set-requires Inv-loop μ-loop
+close-set-requires c κs = tt
+
 find-among-requires : tie.Need-find-among-requires Inv-loop μ-loop
-find-among-requires c κs = (c .before .before .before .before .before .pre, c .before .before .before .loop .inv .2)
+find-among-requires c κs = tt
 
 do-order-requires : tie.Need-do-order-requires Inv-loop μ-loop
 do-order-requires c κs = tt
@@ -38,11 +45,12 @@ do-order-requires c κs = tt
 returns : tie.Need-returns Inv-loop μ-loop
 unfolding toDo
 returns c =
-    let at = c .before .before .before .before .before .before .loop in
-    let st = c .before .before .before .before .before .before .before .before in
+    let at = c .before .before .before .before .before .before .before .before .loop in
+    let st = c .before .before .before .before .before .before .before .before .before .before .before .before in
     let s = st .args .self in
-    let held = held-seen s (st .args .view) (st .pre) (at .e) (omega arith) _ _ (c .before .before .before .before .is-in .ensures) (c .before .before .before .if1 .taken) in
-    rw (c .do-order .ensures) (turn-made _ _ (at .e) (at .inv .1) s (doAll s) (omega arith) _ (doing-some s (at .e) _ (c .before .before .find-among .ensures) held (c .before .if2 .taken)))
+    let held = held-seen s (st .args .view) (st .pre) (at .e) (omega arith) _ _ (c .before .before .before .before .before .before .is-in .ensures) (c .before .before .before .before .before .if1 .taken) in
+    let same = members-found s (sized s (st .good .0)) (at .e) (at .able) (at .inv .2) (c .before .before .before .before .close-set .result) (c .before .before .before .before .close-set .ensures (s .plan) (fateOf s) refl refl (st .pre)) (c .before .before .before .if2 .taken) (c .before .before .find-among .result) (c .before .before .find-among .ensures) in
+    rw (c .do-order .ensures) (turn-made _ _ (at .e) (at .inv .1) s (doAll s) (omega arith) _ (doing-some s (at .e) _ same held (c .before .if3 .taken)))
 
 with-if-requires : tie.Need-with-if-requires Inv-loop μ-loop
 with-if-requires c κs = tt
@@ -59,14 +67,20 @@ loop-less c = omega arith
 loop-again : tie.Need-loop-again Inv-loop μ-loop
 loop-again c =
     let at = c .before .before .before .loop in
-    let st = c .before .before .before .before .before in
+    let st = c .before .before .before .before .before .before .before in
     let s = st .args .self in
+    let z = sized s (st .good .0) in
     let told = held-seen s (st .args .view) (st .pre) (at .e) (omega arith) (c .before .is-in .result) in
     ⊎-elim
-    (λ w. (
+    (λ w.
+    let closes = w .1 .ensures (s .plan) (fateOf s) refl refl (st .pre) in
+    let missing : chosen s (at .e) ≡ none = ⊎-elim
+    (λ v. order-missing s (at .e) (v .1 .result) (members-found s z (at .e) (at .able) (at .inv .2) (w .1 .result) closes (v .0 .taken) (v .1 .result) (v .1 .ensures)) (v .2 .left))
+    (λ v. order-missing s (at .e) noOrder (members-none s z (at .e) (at .able) (at .inv .2) (w .1 .result) closes (v .left)) refl)
+    (w .2 .came) in (
       omega arith,
-      rest-next _ _ (at .e) (at .inv .1) (omega arith) (doing-missing s (at .e) _ (w .1 .ensures) (told true (c .before .is-in .ensures) (w .0 .taken)) (w .2 .left)),
-      subst (λ (a : ℕ). Hopeful s (inSet a)) (sym (w .5)) (hopeful-less s (at .able) (w .3 .result) (w .4 .result) (at .e) (in-below _ (at .e) (sym (c .before .is-in .ensures) ∙ w .0 .taken)) (w .3 .ensures) (w .4 .ensures) (at .inv .2) (order-missing s (at .e) _ (w .1 .ensures) (w .2 .left))),
+      rest-next _ _ (at .e) (at .inv .1) (omega arith) (doing-hopeless s (at .e) (told true (c .before .is-in .ensures) (w .0 .taken)) missing),
+      subst (λ (a : ℕ). Hopeful s (inSet a)) (sym (w .5)) (hopeful-less s (at .able) (w .3 .result) (w .4 .result) (at .e) (in-below _ (at .e) (sym (c .before .is-in .ensures) ∙ w .0 .taken)) (w .3 .ensures) (w .4 .ensures) (at .inv .2) missing),
     ))
     (λ w. (
       omega arith,
@@ -78,7 +92,7 @@ loop-again c =
 returns-2 : tie.Need-returns-2 Inv-loop μ-loop
 unfolding toDo
 returns-2 c =
-    let s = c .before .before .before .args .self in
+    let s = c .before .before .before .before .before .args .self in
     turn-none _ (doing s) (c .before .loop .e) (c .before .loop .inv .1) s (doAll s) (c .loop-test .left)
 
 pub do-chosen-spec : {M : Type 1} → statement M
@@ -89,6 +103,7 @@ do-chosen-spec =
     μ-loop
     loop-holds
     is-in-requires
+    close-set-requires
     find-among-requires
     do-order-requires
     returns

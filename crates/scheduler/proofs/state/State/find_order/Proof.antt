@@ -1,16 +1,31 @@
 -- `State::find_order` meets its contract.
-use Rattle.scheduler.proofs.SearchLoops.{hopeful-all}
+use mathlib.Core.Path.{refl}
+use Rattle.scheduler.specs.State.{fateOf}
+use Rattle.scheduler.proofs.Sizes.{sized}
+use Rattle.scheduler.proofs.SearchLoops.{members-none, members-found, hopeful-all}
 use Rattle.scheduler.proofs.state.State.find_order.Statement.{statement}
 use Rattle.scheduler.proofs.state.State.find_order.Tie as tie
 
 view-requires : tie.Need-view-requires
 view-requires c κs = tt
 
+close-set-requires : tie.Need-close-set-requires
+close-set-requires c κs = tt
+
 find-among-requires : tie.Need-find-among-requires
-find-among-requires c κs = (c .view .ensures, hopeful-all _ _ (c .view .ensures))
+find-among-requires c κs = tt
 
 returns : tie.Need-returns
-returns c = c .find-among .ensures
+returns c =
+    let st = c .before .before .before .before .before .before .before in
+    let s = st .args .self in
+    members-found s (sized s (st .good .0)) (st .args .event) (c .before .before .before .before .before .before .view .result .able) (hopeful-all s (c .before .before .before .before .before .before .view .result) (c .before .before .before .before .before .before .view .ensures)) (c .before .before .close-set .result) (c .before .before .close-set .ensures (s .plan) (fateOf s) refl refl (c .before .before .before .before .before .before .view .ensures)) (c .before .if1 .taken) (c .find-among .result) (c .find-among .ensures)
+
+returns-2 : tie.Need-returns-2
+returns-2 c =
+    let st = c .before .before .before .before .before .before in
+    let s = st .args .self in
+    members-none s (sized s (st .good .0)) (st .args .event) (c .before .before .before .before .before .view .result .able) (hopeful-all s (c .before .before .before .before .before .view .result) (c .before .before .before .before .before .view .ensures)) (c .before .close-set .result) (c .before .close-set .ensures (s .plan) (fateOf s) refl refl (c .before .before .before .before .before .view .ensures)) (c .if1 .left)
 
 pub find-order-spec : {M : Type 1} → statement M
-find-order-spec = tie.close (tie.spec view-requires find-among-requires returns)
+find-order-spec = tie.close (tie.spec view-requires close-set-requires find-among-requires returns returns-2)
