@@ -1,5 +1,5 @@
 -- How members grow into the least closed set: one rule, one pass over the rules, and one pass after another.
-use Prim.Native.Nat.{ℕ, zero, suc, _+_, _≤_, _<_}
+use Prim.Native.Nat.{ℕ, suc, _+_, _≤_, _<_}
 use native.Mathlib.Decide.{ℕ-discrete}
 use native.Mathlib.Nat.{le-antisymm}
 use native.Mathlib.Omega.{arith}
@@ -8,7 +8,7 @@ use mathlib.Core.Bool.{Bool, true, false, not, _&&_, _||_, and-true, and-false}
 use mathlib.Core.Logic.{_⊎_, inl, inr, ⊎-elim}
 use mathlib.Core.Path.{_≡_, refl, sym, _∙_, ap}
 use lib.Dec.{eqb, ltb}
-use Rattle.plan.specs.declared.rule.Rule.the-variants.{Order, Need, Conditional}
+use Rattle.plan.specs.declared.rule.Rule.the-variants.{Order}
 use Rattle.plan.specs.Base.{countBelow}
 use Rattle.plan.specs.Fates.{Fates, isSettled}
 use Rattle.plan.specs.Plans.{ruleCount, ruleAt, delayable}

@@ -1,5 +1,5 @@
 -- Sets of the sixteen events as the bits of a number.
-use Rattle.members.specs.Prelude.{ℕ, _/_, _^_, Bool, true, false, not, _&&_, List, Option, none, some, _≡_, bitAnd, eqb, ltb, Plan, View}
+use Rattle.members.specs.Prelude.{ℕ, _/_, _^_, Bool, false, not, _&&_, List, Option, none, some, _≡_, bitAnd, eqb, ltb, Plan, View}
 use Rattle.plan.specs.Base.{readAt}
 use Rattle.plan.specs.Fates.{Fates, isHeld, isDone, isGone}
 use Rattle.plan.specs.Plans.{eventCount, delayable}

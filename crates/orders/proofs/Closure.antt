@@ -5,7 +5,7 @@ use native.Mathlib.Decide.{ℕ-discrete}
 use borrow.Author.Tests.{not-true, eq-eqb, eqb-true}
 use mathlib.Core.Bool.{Bool, true, false, not, _&&_, _||_}
 use mathlib.Core.Logic.{_⊎_, inl, inr}
-use mathlib.Core.Path.{_≡_, refl, sym, _∙_, ap, subst}
+use mathlib.Core.Path.{_≡_, refl, sym, ap, subst}
 use lib.Dec.{eqb}
 use Rattle.orders.specs.Prelude.{Rule, Order, Need, Conditional, Plan}
 use Rattle.plan.specs.Base.{anyBelow, countBelow, oneIf}
@@ -14,7 +14,6 @@ use Rattle.plan.specs.Plans.{ruleCount, ruleAt, delayable}
 use Rattle.orders.specs.Closed.{Events, Stands, Has, Wants, first, one, both, Closed, asks, target}
 use Rattle.orders.specs.Leasts.{calls, adding, pass, passes, leastSet}
 use Rattle.plan.proofs.Tests.{and-left, and-right, and-both, or-either, or-right-true, clash, either, any-false, any-found, count-le}
-use Rattle.orders.proofs.Grounds.{refuted}
 
 -- one set lies in another
 abbrev pub Within : Events → Events → Type 0

@@ -1,22 +1,20 @@
 -- The events of a run that lie in a closed set run by themselves.
-use Prim.Native.Nat.{ℕ, suc, _≤_, _<_}
+use Prim.Native.Nat.{ℕ, suc, _≤_}
 use native.Mathlib.Omega.{arith}
 use native.Mathlib.Decide.{ℕ-discrete}
 use mathlib.Core.Bool.{Bool, true, false, cond}
 use mathlib.Core.List.{List, [], _∷_}
-use mathlib.Core.Logic.{_≢_, _⊎_, inl, inr}
+use mathlib.Core.Logic.{_⊎_, inl, inr}
 use mathlib.Core.Path.{_≡_, refl, sym, _∙_, ap, subst}
 use lib.ListN.{length}
-use Rattle.orders.specs.Prelude.{Fate, Done, Rule, Order, Need, Conditional, Plan}
+use Rattle.orders.specs.Prelude.{Fate, Rule, Plan}
 use Rattle.plan.specs.Base.{among}
 use Rattle.plan.specs.Fates.{Fates, isDone, isGone, isSettled}
-use Rattle.plan.specs.Plans.{eventCount, delayable}
-use Rattle.plan.specs.Rules.{ready}
-use Rattle.orders.specs.Closed.{Events, Stands, Has, Wants, first, one, both, Closed, target}
+use Rattle.orders.specs.Closed.{Events, Stands, Has, first, one, both, Closed}
 use Rattle.orders.specs.Runs.{doing, Bars, late, lost, second, other, Waits, waits, Owed, needed, called, May, Run}
 use Rattle.plan.proofs.Tests.{clash, either}
 use Rattle.orders.proofs.Doing.{gone-settled, doing-same, doing-other, ready-unsettled, ready-same, done-before, unsettled-before}
-use Rattle.orders.proofs.Running.{inside, among-head, among-tail, among-cases, among-none}
+use Rattle.orders.proofs.Running.{among-head, among-tail, among-cases, among-none}
 
 -- the events of an order that lie in m
 unfoldable pub keep : Events → List ℕ → List ℕ

@@ -1,11 +1,10 @@
 -- Fates with one event done more.
 use Prim.Native.Nat.{ℕ}
 use native.Mathlib.Decide.{ℕ-discrete}
-use borrow.Author.Tests.{eq-eqb, ne-eqb, eqb-true}
-use mathlib.Core.Bool.{Bool, true, false, _&&_, _||_}
+use borrow.Author.Tests.{eq-eqb, ne-eqb}
+use mathlib.Core.Bool.{true, false, _&&_, _||_}
 use mathlib.Core.Logic.{_≢_, _⊎_, inl, inr}
 use mathlib.Core.Path.{_≡_, refl, sym, _∙_, ap, subst, fun-ext}
-use lib.Dec.{eqb}
 use Rattle.orders.specs.Prelude.{Fate, Open, Held, Done, Refused, Lapsed, Plan}
 use Rattle.plan.specs.Fates.{Fates, isOpen, isHeld, isDone, isGone, isSettled}
 use Rattle.plan.specs.Plans.{forcible}

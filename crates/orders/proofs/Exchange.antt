@@ -1,19 +1,18 @@
 -- An event of a run that follows no other of its events may come first.
-use Prim.Native.Nat.{ℕ, suc, _<_}
+use Prim.Native.Nat.{ℕ, suc}
 use native.Mathlib.Decide.{ℕ-discrete}
 use borrow.Author.Tests.{eq-eqb, ne-eqb}
 use mathlib.Core.Bool.{Bool, true, false, cond}
 use mathlib.Core.List.{List, [], _∷_}
-use mathlib.Core.Logic.{_≢_, _⊎_, inl, inr}
-use mathlib.Core.Path.{_≡_, refl, sym, _∙_, ap, subst}
+use mathlib.Core.Logic.{_≢_, inl, inr}
+use mathlib.Core.Path.{_≡_, sym, _∙_, ap, subst}
 use lib.Dec.{eqb}
 use lib.ListN.{length}
-use Rattle.orders.specs.Prelude.{Rule, Order, Need, Conditional, Plan}
+use Rattle.orders.specs.Prelude.{Rule, Order, Plan}
 use Rattle.plan.specs.Base.{among}
-use Rattle.plan.specs.Fates.{Fates, isDone, isGone, isSettled}
-use Rattle.orders.specs.Closed.{Events, Stands}
+use Rattle.plan.specs.Fates.{Fates, isDone, isSettled}
+use Rattle.orders.specs.Closed.{Stands}
 use Rattle.orders.specs.Runs.{doing, Bars, late, lost, second, other, Waits, waits, May, Run}
-use Rattle.plan.proofs.Tests.{clash}
 use Rattle.orders.proofs.Doing.{doing-same, doing-both, ready-unsettled, ready-stays, done-before, gone-before, gone-stays, unsettled-before}
 use Rattle.orders.proofs.Running.{among-head, among-tail, among-cases, among-none, no-turn}
 

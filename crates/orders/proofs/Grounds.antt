@@ -2,15 +2,15 @@
 use Prim.Native.Nat.{ℕ}
 use borrow.Author.Tests.{not-true, eq-eqb, eqb-true}
 use mathlib.Core.Bool.{Bool, true, false, not, _&&_, _||_}
-use mathlib.Core.Logic.{_⊎_, inl, inr}
-use mathlib.Core.Path.{_≡_, refl, sym}
+use mathlib.Core.Logic.{inl, inr}
+use mathlib.Core.Path.{_≡_, refl}
 use lib.Dec.{eqb}
 use Rattle.orders.specs.Prelude.{Rule, Order, Need, Conditional, Plan}
 use Rattle.plan.specs.Fates.{Fates, isDone, isGone, isSettled}
 use Rattle.plan.specs.Plans.{delayable}
 use Rattle.plan.specs.Rules.{bars, makesWait, owes}
 use Rattle.orders.specs.Runs.{Bars, late, lost, second, other, Waits, waits, Owed, needed, called}
-use Rattle.plan.proofs.Tests.{and-left, and-right, and-both, or-either, or-right-true, clash}
+use Rattle.plan.proofs.Tests.{and-left, and-right, or-either, or-right-true, clash}
 
 pub refuted : (b : Bool) → (b ≡ true → ⊥) → b ≡ false
 refuted true h = absurd (h refl)

@@ -5,19 +5,19 @@ use native.Mathlib.Decide.{ℕ-discrete}
 use borrow.Author.Tests.{eq-eqb, ne-eqb, eqb-true}
 use mathlib.Core.Bool.{Bool, true, false, _||_}
 use mathlib.Core.List.{List, [], _∷_}
-use mathlib.Core.Logic.{_≢_, _⊎_, inl, inr}
-use mathlib.Core.Path.{_≡_, refl, sym, _∙_, ap, subst}
+use mathlib.Core.Logic.{_⊎_, inl, inr}
+use mathlib.Core.Path.{_≡_, refl, sym, ap, subst}
 use lib.Dec.{eqb}
 use lib.ListN.{length}
 use Rattle.orders.specs.Prelude.{Rule, Order, Need, Conditional, Plan}
 use Rattle.plan.specs.Base.{among, countBelow}
-use Rattle.plan.specs.Fates.{Fates, isDone, isGone, isSettled}
+use Rattle.plan.specs.Fates.{Fates, isDone, isSettled}
 use Rattle.plan.specs.Plans.{eventCount, delayable}
 use Rattle.plan.specs.Rules.{ready}
-use Rattle.orders.specs.Closed.{Events, Stands, Has, Wants, first, one, both, Closed, target}
-use Rattle.orders.specs.Runs.{doing, Bars, late, lost, second, other, Waits, waits, Owed, needed, called, May, Run}
+use Rattle.orders.specs.Closed.{Events, Stands, Has, first, one, both, Closed}
+use Rattle.orders.specs.Runs.{doing, Bars, late, lost, second, other, waits, Owed, needed, called, Run}
 use Rattle.plan.proofs.Tests.{or-either, or-right-true, clash, either, count-same, count-zero}
-use Rattle.orders.proofs.Doing.{doing-same, doing-other, ready-unsettled, done-stays, done-before, gone-stays, unsettled-stays, ready-before, ready-other}
+use Rattle.orders.proofs.Doing.{doing-same, ready-unsettled, done-stays, gone-stays, unsettled-stays, ready-before, ready-other}
 
 -- the events of an order, as a set
 abbrev pub inside : List ℕ → Events

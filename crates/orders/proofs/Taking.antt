@@ -1,30 +1,30 @@
 -- Taking always the lowest event of a closed set that is not blocked: what it gives runs, and where the set runs at all
 -- it gives the first order.
-use Prim.Native.Nat.{ℕ, zero, suc, _+_, _≤_, _<_}
+use Prim.Native.Nat.{ℕ, zero, suc, _≤_, _<_}
 use native.Mathlib.Omega.{arith}
 use native.Mathlib.Decide.{ℕ-discrete, decLt}
-use borrow.Author.Tests.{not-true, not-false, eq-eqb, ne-eqb, eqb-true}
+use borrow.Author.Tests.{not-true, eq-eqb, ne-eqb, eqb-true}
 use mathlib.Core.Bool.{Bool, true, false, not, _&&_, _||_}
 use mathlib.Core.List.{List, [], _∷_}
-use mathlib.Core.Logic.{_≢_, _⊎_, inl, inr}
+use mathlib.Core.Logic.{_≢_, inl, inr}
 use mathlib.Core.Option.{Option, none, some, Option·map}
 use mathlib.Core.Path.{_≡_, refl, sym, _∙_, ap, subst}
 use lib.Dec.{eqb}
 use lib.ListN.{length}
 use Rattle.orders.specs.Prelude.{Rule, Order, Need, Conditional, Plan}
-use Rattle.plan.specs.Base.{among, anyBelow, lowest, firstOf, when}
+use Rattle.plan.specs.Base.{among, anyBelow}
 use Rattle.plan.specs.Fates.{Fates, isDone, isSettled}
 use Rattle.plan.specs.Plans.{eventCount, ruleCount, ruleAt, delayable}
 use Rattle.plan.specs.Rules.{ready, bars}
-use Rattle.orders.specs.Closed.{Events, Stands, Has, Wants, first, one, both, Closed, target}
-use Rattle.orders.specs.Runs.{doing, Bars, late, Waits, waits, Owed, needed, called, May, Run}
+use Rattle.orders.specs.Closed.{Events, Stands, first, one, both, Closed, target}
+use Rattle.orders.specs.Runs.{doing, late, Waits, waits, Owed, needed, called, May, Run}
 use Rattle.orders.specs.Sequences.{Ahead}
 use Rattle.orders.specs.Stepwise.{follows, blocked, less, nothing, next, stepwise}
-use Rattle.plan.proofs.Tests.{and-left, and-right, and-both, or-left, or-right, or-both, or-right-true, or-either, and-not, clash, either, any-false, any-none, any-some, first-none, first-some, when-none, when-some, some-none}
+use Rattle.plan.proofs.Tests.{and-left, and-right, or-left, or-right, or-both, or-right-true, or-either, and-not, clash, either, any-false, any-none, some-none}
 use Rattle.orders.proofs.Lowest.{lowest-some, lowest-any}
 use Rattle.orders.proofs.Grounds.{refuted, bars-grounds, grounds-bar}
-use Rattle.orders.proofs.Doing.{doing-same, ready-unsettled, ready-stays, done-before, unsettled-before, unsettled-other}
-use Rattle.orders.proofs.Running.{inside, among-head, among-tail, among-cases, among-none, run-ready, run-once, run-closed, no-turn}
+use Rattle.orders.proofs.Doing.{doing-same, ready-unsettled, ready-stays, unsettled-other}
+use Rattle.orders.proofs.Running.{among-head, among-tail, among-cases, among-none, run-once, no-turn}
 use Rattle.orders.proofs.Closure.{wants-unsettled, wants-more}
 use Rattle.orders.proofs.Cutting.{closed-stays}
 use Rattle.orders.proofs.Exchange.{Leading, drop-one, drop-same, exchange, drop-length, drop-before, drop-stays}

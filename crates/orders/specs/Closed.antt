@@ -1,7 +1,7 @@
 -- Sets of events that are closed under what the rules that stand ask for.
-use Rattle.orders.specs.Prelude.{ℕ, _≤_, _<_, Bool, true, false, not, _&&_, _||_, _≢_, _⊎_, _≡_, Rule, Order, Need, Conditional, Plan}
+use Rattle.orders.specs.Prelude.{ℕ, _≤_, _<_, Bool, true, false, _&&_, _||_, _⊎_, _≡_, Rule, Order, Need, Conditional, Plan}
 use Rattle.plan.specs.Base.{countBelow}
-use Rattle.plan.specs.Fates.{Fates, isDone, isGone, isSettled}
+use Rattle.plan.specs.Fates.{Fates, isDone, isSettled}
 use Rattle.plan.specs.Plans.{ruleCount, ruleAt, delayable}
 
 -- a set of events, as a test

@@ -1,5 +1,5 @@
 -- Orders over a plan, the rules that stand and the fates: what stops an event, what is owed, and runs.
-use Rattle.orders.specs.Prelude.{ℕ, _<_, Bool, true, false, cond, List, [], _∷_, _⊎_, _≡_, eqb, Done, Rule, Order, Need, Conditional, Plan}
+use Rattle.orders.specs.Prelude.{ℕ, _<_, Bool, true, false, cond, List, [], _∷_, _≡_, eqb, Done, Rule, Order, Need, Conditional, Plan}
 use Rattle.plan.specs.Fates.{Fates, isDone, isGone, isSettled}
 use Rattle.plan.specs.Plans.{eventCount, delayable}
 use Rattle.plan.specs.Rules.{ready}

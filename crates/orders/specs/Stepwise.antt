@@ -1,5 +1,5 @@
 -- The order that takes, over and over, the lowest event of a set that may come next.
-use Rattle.orders.specs.Prelude.{ℕ, zero, suc, _<_, Bool, true, false, not, _&&_, _||_, cond, List, [], _∷_, _≢_, _⊎_, Option, none, some, Option·map, _≡_, eqb, Rule, Order, Need, Conditional, Plan}
+use Rattle.orders.specs.Prelude.{ℕ, zero, suc, Bool, true, false, not, _&&_, _||_, List, [], _∷_, Option, none, some, Option·map, eqb, Rule, Order, Need, Conditional, Plan}
 use Rattle.plan.specs.Base.{anyBelow, when, lowest}
 use Rattle.plan.specs.Fates.{Fates}
 use Rattle.plan.specs.Plans.{ruleCount, ruleAt, delayable}

@@ -3,23 +3,21 @@
 use Prim.Native.Nat.{ℕ, _≤_, _<_}
 use native.Mathlib.Omega.{arith}
 use native.Mathlib.Decide.{ℕ-discrete}
-use borrow.Author.Tests.{not-true, eq-eqb, eqb-true}
+use borrow.Author.Tests.{not-true}
 use mathlib.Core.Bool.{Bool, true, false, not, _&&_, _||_}
 use mathlib.Core.List.{List, [], _∷_, List·Memᴰ, List·Memᴰ·cases-cons, List·Memᴰ·not-nil, List·Memᴰ·head, List·Memᴰ·tail}
-use mathlib.Core.Logic.{_≢_, _⊎_, inl, inr}
+use mathlib.Core.Logic.{inl, inr}
 use mathlib.Core.Option.{Option, none, some}
 use mathlib.Core.Path.{_≡_, refl, sym, _∙_, ap, subst, fun-ext}
-use lib.Dec.{eqb}
 use lib.ListN.{length}
-use Rattle.scheduler.specs.Prelude.{Fate, Done, Rule, Plan, State}
-use Rattle.plan.specs.Base.{anyBelow, among, countBelow}
-use Rattle.plan.specs.Fates.{Fates, isSettled}
+use Rattle.scheduler.specs.Prelude.{Done, Rule, State}
+use Rattle.plan.specs.Base.{anyBelow, among}
+use Rattle.plan.specs.Fates.{Fates}
 use Rattle.plan.specs.Plans.{eventCount, ruleCount, ruleAt}
 use Rattle.plan.specs.Rules.{bars, makesWait, forbids, owes, ready}
 use Rattle.orders.specs.Closed.{Events, Stands, Closed, Fit, Least}
-use Rattle.orders.specs.Runs.{doing, Bars, Waits, Owed, May, Run}
+use Rattle.orders.specs.Runs.{doing, May, Run}
 use Rattle.orders.specs.Stepwise.{stepwise}
-use Rattle.orders.specs.Sequences.{Ahead}
 use Rattle.scheduler.specs.State.{fateOf, settleAs, Sized}
 use Rattle.scheduler.specs.Rules.{stands, forbidden, owing}
 use Rattle.scheduler.specs.Orders.{mayDo, doOne, Runs, Viable, First, chosen}
@@ -29,7 +27,7 @@ use Rattle.orders.proofs.Grounds.{refuted, bars-grounds, grounds-bar, wait-grou
 use Rattle.orders.proofs.Doing.{doing-same, doing-other}
 use Rattle.orders.proofs.Running.{inside, among-head, among-tail, among-cases, among-none, run-ready, run-closed, count-inside}
 use Rattle.orders.proofs.Cutting.{keep, run-keep, keep-length, keep-member, keep-all}
-use Rattle.orders.proofs.Taking.{Ready, Sound, sound, Made, Taken, complete}
+use Rattle.orders.proofs.Taking.{Ready, sound, complete}
 use Rattle.scheduler.proofs.Laws.{sized-one, fate-settle-same, fate-settle-other}
 use Rattle.scheduler.proofs.Searching.{hand-bound, ready-bound, runs-differ, ahead-both, chosen-none, chosen-first}
 

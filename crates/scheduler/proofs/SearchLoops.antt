@@ -12,9 +12,7 @@ use lib.Dec.{eqb, ltb}
 use lib.ListN.{length, getD, set, replicate}
 use Rattle.scheduler.specs.declared.order.Found.{Found}
 use Rattle.scheduler.specs.Prelude.{take, State}
-use Rattle.plan.specs.Base.{firstOf, when, tabulate, lowest}
-use Rattle.plan.specs.Fates.{Fates}
-use Rattle.orders.specs.Closed.{Events, Least}
+use Rattle.plan.specs.Base.{tabulate, lowest}
 use Rattle.orders.specs.Runs.{doing}
 use Rattle.orders.specs.Stepwise.{blocked, less, nothing, next, stepwise}
 use Rattle.members.specs.declared.closed.Members.{Members}
@@ -32,7 +30,7 @@ use Rattle.plan.proofs.Tests.{and-left, and-right, and-both, clash}
 use Rattle.orders.proofs.Grounds.{refuted}
 use Rattle.orders.proofs.Lowest.{lowest-some, lowest-none, lowest-alike}
 use Rattle.orders.proofs.Taking.{less-in, less-stays, none-nothing, some-left, step-ends, step-full, step-stuck, step-takes}
-use Rattle.members.proofs.Bits.{in-zero, in-below}
+use Rattle.members.proofs.Bits.{in-zero}
 use Rattle.scheduler.proofs.LeastSets.{fates-one, no-fit-none, chosen-taken}
 use Rattle.scheduler.proofs.Searching.{chosen-short}
 

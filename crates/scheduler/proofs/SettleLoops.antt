@@ -26,7 +26,7 @@ use Rattle.plan.specs.Fates.{isHeld}
 use Rattle.scheduler.specs.Rules.{stands, barred}
 use Rattle.scheduler.specs.Calls.{toRefuse, toDo, settleOnce, settleUpTo, settle, refuseHeld}
 use Rattle.scheduler.specs.Internal.Turned.{turnOf}
-use Rattle.plan.proofs.Tests.{clash, first-some, some-none}
+use Rattle.plan.proofs.Tests.{clash, some-none}
 use Rattle.scheduler.proofs.Branches.{upTo-none, upTo-some, lowestHeld, refuse-none, refuse-some}
 use Rattle.plan.proofs.Loops.{Rest, first-here, first-end}
 use Rattle.scheduler.proofs.Searching.{chosen-short}

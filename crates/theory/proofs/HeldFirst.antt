@@ -1,12 +1,11 @@
 -- S-4: all shortest viable orders for an event are made of the same events, so looking at orders of held events first
 -- finds the chosen order. They are made of the least closed set, which every viable order has.
-use Prim.Native.Nat.{ℕ, zero, suc, _+_, _≤_, _<_}
+use Prim.Native.Nat.{ℕ, _≤_, _<_}
 use native.Mathlib.Omega.{arith}
-use native.Mathlib.Decide.{ℕ-discrete}
 use borrow.Author.Tests.{lt-ltb, ltb-true}
 use mathlib.Core.Bool.{Bool, true, false, _&&_}
-use mathlib.Core.List.{List, [], _∷_, List·Memᴰ}
-use mathlib.Core.Logic.{_⊎_, inl, inr}
+use mathlib.Core.List.{List, [], List·Memᴰ}
+use mathlib.Core.Logic.{inl, inr}
 use mathlib.Core.Option.{Option, none, some}
 use mathlib.Core.Path.{_≡_, refl, sym, _∙_, ap, subst}
 use lib.Dec.{ltb}
@@ -16,7 +15,7 @@ use Rattle.plan.specs.Base.{firstOf, orElse, among, countBelow}
 use Rattle.plan.specs.Fates.{isHeld}
 use Rattle.plan.specs.Plans.{eventCount}
 use Rattle.plan.specs.Rules.{ready}
-use Rattle.orders.specs.Closed.{Events, Closed, Fit, Least}
+use Rattle.orders.specs.Closed.{Events}
 use Rattle.orders.specs.Sequences.{Ahead}
 use Rattle.orders.specs.Stepwise.{stepwise}
 use Rattle.scheduler.specs.State.{fateOf, Sized}
@@ -28,7 +27,7 @@ use Rattle.orders.proofs.Closure.{shared, shared-closed, least-has, least-close
 use Rattle.orders.proofs.Lowest.{first-at, first-nowhere}
 use Rattle.orders.proofs.Running.{inside, run-ready, count-inside}
 use Rattle.orders.proofs.Cutting.{keep}
-use Rattle.scheduler.proofs.Searching.{Reaches, Passes, order-none, order-some, order-ahead, reaches, every, runs-differ, has-contains, ahead-both, chosen-none, chosen-first, mem-long}
+use Rattle.scheduler.proofs.Searching.{Passes, order-some, order-ahead, reaches, every, runs-differ, has-contains, ahead-both, chosen-none, chosen-first, mem-long}
 use Rattle.scheduler.proofs.LeastSets.{mem-among, among-mem, run-of, cut-viable, shortest-within, viable-closed, first-shortest, chosen-taken}
 
 module _ (s : State) (z : Sized s) (e : ℕ) where
