@@ -32,7 +32,7 @@ pub data Wants (p : Plan) (f : Fates) (m : Events) : Rule → Type 0 where
   one : {a b : ℕ} → Has f m a → isSettled (f b) ≡ false → Wants p f m (Need a b)
   both : {a b c : ℕ} → Has f m a → Has f m b → isSettled (f c) ≡ false → Wants p f m (Conditional a b c)
 
--- the set has everything that is asked for
+-- the set has everything that is asked for (7.10)
 abbrev pub Closed : Plan → (ℕ → Bool) → Fates → Events → Type 0
 Closed p l f m = (r : Rule) → Stands p l r → Wants p f m r → m (target r) ≡ true
 

@@ -22,6 +22,6 @@ unfoldable pub passes : ℕ → Plan → (ℕ → Bool) → Fates → Events →
 passes zero p l f m = m
 passes (suc k) p l f m = pass (ruleCount p) p l f (passes k p l f m)
 
--- each pass that changes something adds the target of one rule more
+-- as many passes as there are rules: each that changes something adds the target of one rule more (7.10)
 unfoldable pub leastSet : Plan → (ℕ → Bool) → Fates → ℕ → Events
 leastSet p l f e = passes (ruleCount p) p l f (λ x. eqb x e)

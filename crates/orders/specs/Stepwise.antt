@@ -30,7 +30,7 @@ nothing m = not (anyBelow 16 m)
 unfoldable pub next : Plan → (ℕ → Bool) → Fates → Events → Option ℕ
 next p l f m = lowest 16 (λ x. m x && not (blocked p l f m x))
 
--- the events of the set, always the lowest that is not blocked next; none where all are, or there are more than k
+-- the events of the set, always the lowest that is not blocked next; none where all are, or there are more than k (7.11)
 unfoldable pub stepwise : Plan → (ℕ → Bool) → ℕ → Fates → Events → Option (List ℕ)
 stepwise p l zero f m = when (nothing m) (some [])
 stepwise p l (suc k) f m = elim (nothing m) [

@@ -1,5 +1,5 @@
 // The chosen order for an event. The events that have to be done with it are found first; an order takes always the lowest
-// of them that may come next, so nothing is tried twice.
+// of them that may come next, so nothing is tried twice (7.10, 7.11).
 use super::state::State;
 use members::blocked::blocked_in;
 use members::closed::close_set;
@@ -27,7 +27,7 @@ pub struct Found {
 }
 
 impl State {
-    // The chosen order for the event.
+    // The chosen order for the event (7.5).
     pub fn find_order(self, event: u8) -> Found
         ensures { λ r. ⌜ r ≡ foundOrder (chosen self event) ⌝ }
     {
@@ -47,8 +47,8 @@ impl State {
         }
     }
 
-    // The order of the members. An order in which no open event is forced has to do with held members alone, and there
-    // is one only where all of them are held; else the others are forced.
+    // The order of the members. Held events first (7.9): an order in which no open event is forced is made of held members
+    // alone, and there is one only where all are held; else the others are forced.
     pub(crate) fn find_among(self, view: View, members: u32) -> Found
         ensures { λ r. ⌜ r ≡ foundFrom 0 (stepwise (self .plan) (stands self) 6 (fateOf self) (inSet members)) ⌝ }
     {
