@@ -8,12 +8,13 @@ use mathlib.Core.Path.{_≡_, refl, sym, _∙_, ap, subst}
 use lib.Pow.{areBytes}
 use Rattle.plan.specs.Calls.{Decoded, decode}
 use Rattle.plan.proofs.CallRecords.{byteNumbers, decoded}
+use Rattle.scheduler.specs.Coherent.{coherent}
 use Rattle.scheduler.specs.Sheet.{readSheet, admitted}
 use Rattle.scheduler.specs.Lists.{scheduler, after, turnedDown}
 use Rattle.scheduler.specs.Runner.{ranOn, runOn, runOf}
 use Rattle.scheduler.specs.Demand.{seen, Demand3}
-use Rattle.theory.proofs.Demands.{demand3}
-use Rattle.lists.specs.Types.{Call, SheetFault, Admitted, Faulty, State, Reading, Outcome}
+use Rattle.theory.proofs.Demands.{demand3, admitted-coherent}
+use Rattle.lists.specs.Types.{Call, SheetFault, Verdict, Admitted, Faulty, State, Reading, Outcome}
 
 -- the branches of `runOn`
 on-admitted : (r : Reading) (d : Decoded) → r .verdict ≡ Admitted → runOn r d ≡ ranOn (r .state) d
@@ -37,6 +38,12 @@ module _ (sheet calls : List ℕ) (r : Reading) (e : r ≡ readSheet sheet) wher
       → record { verdict = r .verdict; state = r .state; refused = 0 } ≡ runOf sheet calls
   unfolding runOf
   not-ran f at h = sym (on-refused r (decode calls) f at h) ∙ ap (λ t. runOn t (decode calls)) e
+
+-- the calls start from a state that passes number 12
+pub starts : (sheet : List ℕ) (r : Reading) → r ≡ readSheet sheet → r .verdict ≡ Admitted → coherent (r .state) ≡ true
+starts sheet r e h =
+    admitted-coherent sheet (r .state)
+    (sym e ∙ ap {B = Reading} (λ (v : Verdict). record { verdict = v; state = r .state }) h)
 
 -- the run on an admitted sheet
 run-state : (sheet calls : List ℕ) (s : State)

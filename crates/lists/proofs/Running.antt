@@ -1,7 +1,8 @@
--- Taking record after record comes to the run of the list that the bytes decode to.
-use Prim.Native.Nat.{ℕ, suc, _+_, _-_, _≤_, _<_}
+-- Taking record after record comes to the run of the list that the bytes decode to. Every state on the way passes
+-- number 12, so only the rows after it turn a call down.
+use Prim.Native.Nat.{ℕ, _+_, _-_, _≤_, _<_}
 use native.Mathlib.Omega.{arith}
-use mathlib.Core.Bool.{Bool, true, false, cond}
+use mathlib.Core.Bool.{Bool, true, false}
 use mathlib.Core.List.{List, []}
 use mathlib.Core.Path.{_≡_, refl, sym, _∙_, ap}
 use lib.ListN.{length, drop, length-drop}
@@ -9,49 +10,17 @@ use lib.Seq.{drop-drop}
 use Rattle.plan.specs.Base.{oneIf}
 use Rattle.plan.specs.Faults.{isTurnedDown}
 use Rattle.plan.specs.Calls.{callSize, firstCall, Decoded, andThen, decode}
-use Rattle.plan.proofs.Tests.{clash, one-le}
+use Rattle.plan.proofs.Tests.{one-le}
 use Rattle.plan.proofs.CallDecoding.{size-some, listed-inside, bad-inside, decode-first, decode-none, decode-broken}
-use Rattle.scheduler.specs.Answers.{call}
+use Rattle.scheduler.specs.State.{Sized}
+use Rattle.scheduler.specs.Coherent.{coherent}
+use Rattle.scheduler.specs.Answers.{turnsDown, accept, call}
 use Rattle.scheduler.specs.Lists.{scheduler, after, turnedDown}
 use Rattle.scheduler.specs.Runner.{ranOn}
-use Rattle.lists.specs.Types.{Call, CallRead, Listed, End, Bad, State, Admitted, Reply, Outcome, Progress}
-use Rattle.lists.specs.Internal.Progress.{stopped, afterReply, takeCall, Room}
-
--- the branches of `afterReply`
-module _ (r : Reply) (at n : ℕ) where
-  pub reply-refused : isTurnedDown (r .answer) ≡ true
-      → record { state = r .state; at = at; refused = n + 1; going = true } ≡ afterReply r at n
-  reply-refused h = rw h
-
-  pub reply-taken : isTurnedDown (r .answer) ≡ false
-      → record { state = r .state; at = at; refused = n; going = true } ≡ afterReply r at n
-  reply-taken h = rw h (ap (λ (k : ℕ). record { state = r .state; at = at; refused = k; going = true }) (omega arith))
-
--- the branches of `takeCall`, by what code reads
-module _ (p : Progress) (read : CallRead) (q : Progress) where
-  pub taken-listed : (c : Call) (r : Reply) (size : ℕ)
-      → read ≡ Listed c
-      → r ≡ call (p .state) c
-      → size ≡ callSize c
-      → q ≡ afterReply r (p .at + size) (p .refused)
-      → q ≡ takeCall p read
-  unfolding takeCall
-  taken-listed c r size h made long e = e ∙ rw (h, made, long)
-
-  pub taken-end : read ≡ End → q ≡ stopped p (p .refused) → q ≡ takeCall p read
-  unfolding takeCall
-  taken-end h e = e ∙ rw h
-
-  pub taken-bad : read ≡ Bad → q ≡ stopped p (p .refused + 1) → q ≡ takeCall p read
-  unfolding takeCall
-  taken-bad h e = e ∙ rw h
-
--- a record is not the end
-pub listed-on : (r : CallRead) (c : Call) → r ≡ Listed c → r ≡ End → ⊥
-listed-on r c h e = let z : _≡_ {A = ℕ} 0 1 = cc in omega arith
-
-pub bad-on : (r : CallRead) → r ≡ Bad → r ≡ End → ⊥
-bad-on r h e = let z : _≡_ {A = ℕ} 0 1 = cc in omega arith
+use Rattle.scheduler.proofs.Branches.{call-fault, call-accept}
+use Rattle.scheduler.proofs.CallSteps.{turned-down, not-turned-down}
+use Rattle.theory.proofs.Coherence.{call-coherent, sized-call, call-taken, fault-answer}
+use Rattle.lists.specs.Types.{Call, CallRead, Listed, End, Bad, State, Admitted, Reply, Outcome}
 
 -- the outcome of a list's calls from a state, with n calls turned down before them
 abbrev pub outcomeFrom : State → ℕ → Decoded → Outcome
@@ -62,153 +31,101 @@ outcomeFrom s n d = record {
 }
 
 -- what a list comes to that stops here
-abbrev pub outcomeOf : Progress → Outcome
-outcomeOf p = record { verdict = Admitted; state = p .state; refused = p .refused }
-
--- what is left of a run from here
-abbrev pub restOf : Progress → List ℕ → Outcome
-restOf p b = cond (p .going) (outcomeFrom (p .state) (p .refused) (decode (drop (p .at) b))) (outcomeOf p)
+abbrev pub outcomeOf : State → ℕ → Outcome
+outcomeOf s n = record { verdict = Admitted; state = s; refused = n }
 
 -- one call more in front of a list
 from-call : (s : State) (n : ℕ) (c : Call) (d : Decoded)
     → outcomeFrom (call s c .state) (n + oneIf (isTurnedDown (call s c .answer))) d ≡ outcomeFrom s n (andThen c d)
 unfolding after turnedDown
-from-call s n c d =
-    ap
-    {B = Outcome}
-    (λ (k : ℕ). record { verdict = Admitted; state = after scheduler (call s c .state) (d .calls); refused = k })
-    (omega arith)
+from-call s n c d = ap (outcomeOf (after scheduler (call s c .state) (d .calls))) (omega arith)
 
 -- the end, and a bad record
-from-end : (s : State) (n : ℕ)
-    → record { verdict = Admitted; state = s; refused = n } ≡ outcomeFrom s n (record { calls = []; cut = false })
+from-end : (s : State) (n : ℕ) → outcomeOf s n ≡ outcomeFrom s n (record { calls = []; cut = false })
 unfolding after turnedDown
-from-end s n = ap {B = Outcome} (λ (k : ℕ). record { verdict = Admitted; state = s; refused = k }) (omega arith)
+from-end s n = ap (outcomeOf s) (omega arith)
 
-from-bad : (s : State) (n : ℕ)
-    → record { verdict = Admitted; state = s; refused = n + 1 } ≡ outcomeFrom s n (record { calls = []; cut = true })
+from-bad : (s : State) (n : ℕ) → outcomeOf s (n + 1) ≡ outcomeFrom s n (record { calls = []; cut = true })
 unfolding after turnedDown
-from-bad s n = ap {B = Outcome} (λ (k : ℕ). record { verdict = Admitted; state = s; refused = k }) (omega arith)
+from-bad s n = ap (outcomeOf s) (omega arith)
 
--- the loop: what is left comes to the whole run, and it has counted no more calls than it has passed bytes
-pub record Underway (s : State) (b : List ℕ) (p : Progress) : Type 0 where
-  pub inside : p .at ≤ length b
-  pub same : restOf p b ≡ ranOn s (decode b)
-  pub few : p .going ≡ true → p .refused ≤ p .at
+-- the loop, at a state and an offset, with n calls turned down: what is left comes to the whole run, no more calls are
+-- counted than bytes are passed, and the state passes number 12
+pub record Underway (s : State) (b : List ℕ) (t : State) (at n : ℕ) : Type 0 where
+  pub inside : at ≤ length b
+  pub same : outcomeFrom t n (decode (drop at b)) ≡ ranOn s (decode b)
+  pub few : n ≤ at
+  pub passes : coherent t ≡ true
+  pub sized : Sized t
 
--- the budget of the loop
-abbrev pub leftOf : List ℕ → Progress → ℕ
-leftOf b p = cond (p .going) (suc (length b - p .at)) 0
-
-pub begun : (s : State) (b : List ℕ) → Underway s b (record { state = s; at = 0; refused = 0; going = true })
-begun s b = record {
+pub begun : (s : State) (b : List ℕ) → coherent s ≡ true → Sized s → Underway s b s 0 0
+begun s b h z = record {
   inside = omega arith;
-  same =
-      ap
-      {B = Outcome}
-      (λ (k : ℕ). record { verdict = Admitted; state = after scheduler s (decode b .calls); refused = k })
-      (omega arith);
-  few = λ g. omega arith;
+  same = ap (outcomeOf (after scheduler s (decode b .calls))) (omega arith);
+  few = omega arith;
+  passes = h;
+  sized = z;
 }
 
 -- one record
-module _ (s : State) (b : List ℕ) (p : Progress) (u : Underway s b p) (g : p .going ≡ true) where
-  abbrev here : CallRead
-  here = firstCall (drop (p .at) b)
+module _ {s t : State} {b : List ℕ} {at n : ℕ} (u : Underway s b t at n) (read : CallRead) (is : read ≡ firstCall (drop at b)) where
+  -- a call
+  module _ (c : Call) (h : read ≡ Listed c) (size : ℕ) (long : size ≡ callSize c) where
+    pub inside-listed : at + size ≤ length b
+    inside-listed = omega (arith, long, u .inside, listed-inside (drop at b) c (sym is ∙ h), length-drop at b)
 
-  going-rest : outcomeFrom (p .state) (p .refused) (decode (drop (p .at) b)) ≡ ranOn s (decode b)
-  going-rest =
-      sym (ap (λ (t : Bool). cond t (outcomeFrom (p .state) (p .refused) (decode (drop (p .at) b))) (outcomeOf p)) g)
-      ∙ u .same
+    pub less : length b - (at + size) < length b - at
+    less = omega (arith, long, size-some c, inside-listed)
 
-  now-left : leftOf b p ≡ suc (length b - p .at)
-  now-left = ap (λ (t : Bool). cond t (suc (length b - p .at)) 0) g
+    -- the calls turned down with it
+    abbrev count : ℕ
+    count = n + oneIf (isTurnedDown (call t c .answer))
 
-  module _ (read : CallRead) (is : read ≡ here) where
-    inside-listed : (c : Call) → read ≡ Listed c → p .at + callSize c ≤ length b
-    inside-listed c h = omega (arith, u .inside, listed-inside (drop (p .at) b) c (sym is ∙ h), length-drop (p .at) b)
-
-    inside-other : (read ≡ End → ⊥) → p .at < length b
-    inside-other ne = go read refl
-      where
-        go : (r : CallRead) → read ≡ r → p .at < length b
-        go (Listed c) h = omega (arith, inside-listed c h, size-some c)
-        go End h = absurd (ne h)
-        go Bad h = omega (arith, u .inside, bad-inside (drop (p .at) b) (sym is ∙ h), length-drop (p .at) b)
-
-    pub room : length b < 18446744073709551616 → Room p read
-    room fits = record {
-      next = λ c h. omega (arith, inside-listed c h);
-      count = λ ne. omega (arith, inside-other ne, u .few g);
-    }
-
-    after-listed : (c : Call) → read ≡ Listed c → Underway s b (takeCall p (Listed c))
-    unfolding takeCall
-    after-listed c h = record {
-      inside = inside-listed c h;
+    made : (w : State) (m : ℕ) → w ≡ call t c .state → m ≡ count → Underway s b w (at + size) m
+    made w m e f = rw (e, f) (record {
+      inside = inside-listed;
       same =
-          ap (λ l. outcomeFrom (call (p .state) c .state) (p .refused + oneIf (isTurnedDown (call (p .state) c .answer))) (decode l)) (sym (drop-drop (callSize c) (p .at) b))
-          ∙ from-call (p .state) (p .refused) c (decode (drop (callSize c) (drop (p .at) b)))
-          ∙ ap (outcomeFrom (p .state) (p .refused)) (sym (decode-first (drop (p .at) b) c (sym is ∙ h)))
-          ∙ going-rest;
-      few = λ t. omega (arith, u .few g, size-some c, one-le (isTurnedDown (call (p .state) c .answer)));
-    }
+          ap (λ k. outcomeFrom (call t c .state) count (decode (drop (at + k) b))) long
+          ∙ ap (λ l. outcomeFrom (call t c .state) count (decode l)) (sym (drop-drop (callSize c) at b))
+          ∙ from-call t n c (decode (drop (callSize c) (drop at b)))
+          ∙ ap (outcomeFrom t n) (sym (decode-first (drop at b) c (sym is ∙ h)))
+          ∙ u .same;
+      few = omega (arith, long, u .few, size-some c, one-le (isTurnedDown (call t c .answer)));
+      passes = call-coherent t c (u .sized) (u .passes);
+      sized = sized-call t c (u .sized);
+    })
 
-    after-end : read ≡ End → Underway s b (takeCall p End)
-    unfolding takeCall
-    after-end h = record {
-      inside = u .inside;
-      same =
-          from-end (p .state) (p .refused)
-          ∙ ap (outcomeFrom (p .state) (p .refused)) (sym (decode-none (drop (p .at) b) (sym is ∙ h)))
-          ∙ going-rest;
-      few = λ t. absurd (clash t refl);
-    }
+    -- turned down: the state stays, and the call counts
+    pub again-refused : (w : State) (m : ℕ) → turnsDown t c ≡ true → w ≡ t → m ≡ n + 1 → Underway s b w (at + size) m
+    again-refused w m d e f =
+        let q = turned-down t c (u .passes) d in
+        made w m
+        (e ∙ sym (ap (λ (r : Reply). r .state) (call-fault t c (q .0) (q .1))))
+        (f ∙ ap (λ (k : Bool). n + oneIf k) (sym (ap isTurnedDown (fault-answer t c (q .0) (q .1)))))
 
-    after-bad : read ≡ Bad → Underway s b (takeCall p Bad)
-    unfolding takeCall
-    after-bad h = record {
-      inside = u .inside;
-      same =
-          from-bad (p .state) (p .refused)
-          ∙ ap (outcomeFrom (p .state) (p .refused)) (sym (decode-broken (drop (p .at) b) (sym is ∙ h)))
-          ∙ going-rest;
-      few = λ t. absurd (clash t refl);
-    }
+    -- taken
+    pub again-taken : (w : State) (m : ℕ)
+        → turnsDown t c ≡ false
+        → w ≡ accept t c .state
+        → m ≡ n
+        → Underway s b w (at + size) m
+    again-taken w m d e f =
+        let q = not-turned-down t c (u .passes) d in
+        made w m
+        (e ∙ sym (ap (λ (r : Reply). r .state) (call-accept t c q)))
+        (omega (arith, f, ap oneIf (call-taken t c q)))
 
-    -- a turn of the loop
-    pub again : (q : Progress) → q ≡ takeCall p read → Underway s b q
-    again q e = go read refl
-      where
-        go : (r : CallRead) → read ≡ r → Underway s b q
-        go (Listed c) h = rw (e, h) (after-listed c h)
-        go End h = rw (e, h) (after-end h)
-        go Bad h = rw (e, h) (after-bad h)
+  -- the end
+  pub ended : read ≡ End → outcomeOf t n ≡ ranOn s (decode b)
+  ended h = from-end t n ∙ ap (outcomeFrom t n) (sym (decode-none (drop at b) (sym is ∙ h))) ∙ u .same
 
-    less-listed : (c : Call) → read ≡ Listed c → leftOf b (takeCall p (Listed c)) < leftOf b p
-    unfolding takeCall
-    less-listed c h = omega (arith, now-left, size-some c, inside-listed c h)
+  -- a bad record
+  pub bad-ended : read ≡ Bad → outcomeOf t (n + 1) ≡ ranOn s (decode b)
+  bad-ended h = from-bad t n ∙ ap (outcomeFrom t n) (sym (decode-broken (drop at b) (sym is ∙ h))) ∙ u .same
 
-    less-end : leftOf b (takeCall p End) < leftOf b p
-    unfolding takeCall
-    less-end = omega (arith, now-left)
+  -- one call more can be counted
+  pub listed-room : (c : Call) → read ≡ Listed c → n < length b
+  listed-room c h = omega (arith, u .few, size-some c, inside-listed c h (callSize c) refl)
 
-    less-bad : leftOf b (takeCall p Bad) < leftOf b p
-    unfolding takeCall
-    less-bad = omega (arith, now-left)
-
-    pub less : (q : Progress) → q ≡ takeCall p read → leftOf b q < leftOf b p
-    less q e = go read refl
-      where
-        go : (r : CallRead) → read ≡ r → leftOf b q < leftOf b p
-        go (Listed c) h = rw (e, h) (less-listed c h)
-        go End h = rw (e, h) less-end
-        go Bad h = rw (e, h) less-bad
-
--- the list has stopped
-pub ended : (s : State) (b : List ℕ) (p : Progress)
-    → Underway s b p
-    → p .going ≡ false
-    → outcomeOf p ≡ ranOn s (decode b)
-ended s b p u g =
-    sym (ap (λ (t : Bool). cond t (outcomeFrom (p .state) (p .refused) (decode (drop (p .at) b))) (outcomeOf p)) g) ∙ u .same
+  pub bad-room : read ≡ Bad → n < length b
+  bad-room h = omega (arith, u .inside, u .few, bad-inside (drop at b) (sym is ∙ h), length-drop at b)

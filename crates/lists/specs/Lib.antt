@@ -1,3 +1,2 @@
--- Types, and what private functions need; what `run` promises is defined in `scheduler`.
+-- The types' names; what `run` promises is defined in `scheduler`.
 pub mod Types
-pub mod Internal

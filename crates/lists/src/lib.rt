@@ -1,3 +1,2 @@
 // A list of calls, run on a sheet.
-mod progress;
 pub mod run;

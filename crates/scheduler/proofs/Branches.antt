@@ -10,9 +10,10 @@ use Rattle.plan.specs.Base.{lowest}
 use Rattle.plan.specs.Plans.{eventCount, stepOf, rejectable, delayable}
 use Rattle.scheduler.specs.State.{fateOf, hold, settleAs}
 use Rattle.plan.specs.Fates.{isOpen, isHeld}
+use Rattle.plan.specs.Faults.{firstFault}
 use Rattle.scheduler.specs.Orders.{chosen, doAll}
 use Rattle.scheduler.specs.Calls.{settleOnce, settleUpTo, settle, doAlone, decide, submit, lapse, refuseHeld}
-use Rattle.scheduler.specs.Answers.{callFault, accept, call}
+use Rattle.scheduler.specs.Answers.{callRows, turnsDown, callFault, accept, call}
 
 -- settling up to a number of turns
 pub upTo-none : (n : ℕ) (s : State) → settleOnce s ≡ none → settleUpTo (suc n) s ≡ s
@@ -84,6 +85,15 @@ pub refuse-some : (n : ℕ) (s : State) (e : ℕ)
     → refuseHeld (suc n) s ≡ refuseHeld n (settle (settleAs Refused s e))
 unfolding refuseHeld
 refuse-some n s e h = rw (h, refuseHeld)
+
+-- the rows after number 12's: one applies, or none
+pub turns-some : (s : State) (c : Call) (f : CallFault) → firstFault (callRows s c) ≡ some f → turnsDown s c ≡ true
+unfolding turnsDown
+turns-some s c f h = rw (h, turnsDown)
+
+pub turns-none : (s : State) (c : Call) → firstFault (callRows s c) ≡ none → turnsDown s c ≡ false
+unfolding turnsDown
+turns-none s c h = rw (h, turnsDown)
 
 -- a call turned down, and one that is taken
 pub call-fault : (s : State) (c : Call) (f : CallFault)

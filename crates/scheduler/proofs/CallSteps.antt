@@ -3,10 +3,10 @@ use Prim.Native.Nat.{ℕ, suc, _+_, _-_, _≤_, _<_}
 use native.Mathlib.Nat.{le-antisymm, sub-zero}
 use native.Mathlib.Numerals.{add-one}
 use native.Mathlib.Omega.{arith}
-use borrow.Author.Tests.{not-true, not-false, le-leb, lt-leb}
+use borrow.Author.Tests.{not-true, not-false, le-leb, lt-leb, leb-true, leb-false}
 use mathlib.Core.Bool.{Bool, true, false, not, _&&_, _||_}
 use mathlib.Core.List.{[], _∷_}
-use mathlib.Core.Option.{none, some}
+use mathlib.Core.Option.{Option, none, some}
 use mathlib.Core.Path.{_≡_, refl, sym, _∙_, ap}
 use lib.Dec.{eqb, leb}
 use lib.ListN.{take}
@@ -22,11 +22,12 @@ use Rattle.scheduler.specs.Orders.{chosen, doAll, foundOrder}
 use Rattle.scheduler.specs.Calls.{settle, breakIf, recordBroken, doAlone, decide, submit, lapse, closeStep, finish}
 use Rattle.plan.specs.Faults.{firstFault}
 use Rattle.scheduler.specs.Coherent.{coherent}
-use Rattle.scheduler.specs.Answers.{unclosedAt, callRows, callFault, accept, turnedDownBy, call}
+use Rattle.scheduler.specs.Answers.{unclosedAt, callRows, turnsDown, callFault, accept, turnedDownBy, call}
 use Rattle.scheduler.specs.Internal.Turned.{lapseIf}
+use Rattle.plan.proofs.Tests.{clash}
 use Rattle.plan.proofs.Tables.{row-hit, row-miss, rows-none}
 use Rattle.scheduler.proofs.SettleLoops.{order-found, order-missing}
-use Rattle.scheduler.proofs.Branches.{decide-order, decide-refuse, decide-alone, submit-same, submit-delayed, submit-decided, lapse-yes, lapse-no, call-fault, call-accept}
+use Rattle.scheduler.proofs.Branches.{decide-order, decide-refuse, decide-alone, submit-same, submit-delayed, submit-decided, lapse-yes, lapse-no, turns-some, turns-none, call-fault, call-accept}
 
 -- what a test says, negated in the code
 module _ (is b : Bool) (same : is ≡ b) where
@@ -180,6 +181,21 @@ module _ (s : State) (c : Call) where
     pub call-accepted : (r : Reply) → firstFault (callRows s c) ≡ none → r ≡ accept s c → r ≡ call s c
     call-accepted r none-is same = same ∙ sym (call-accept s c (rows ∙ none-is))
 
+    -- as `turnsDown` tells it
+    pub turned-down : turnsDown s c ≡ true → (f : CallFault) × (callFault s c ≡ some f)
+    turned-down t = go (firstFault (callRows s c)) refl
+      where
+        go : (q : Option CallFault) → firstFault (callRows s c) ≡ q → (f : CallFault) × (callFault s c ≡ some f)
+        go (some f) r = (f, rows ∙ r)
+        go none r = absurd (clash t (turns-none s c r))
+
+    pub not-turned-down : turnsDown s c ≡ false → callFault s c ≡ none
+    not-turned-down t = go (firstFault (callRows s c)) refl
+      where
+        go : (q : Option CallFault) → firstFault (callRows s c) ≡ q → callFault s c ≡ none
+        go (some f) r = absurd (clash (turns-some s c f r) t)
+        go none r = rows ∙ r
+
 -- the rows of each call
 module _ (s : State) where
   module _ (e : ℕ) where
@@ -188,6 +204,13 @@ module _ (s : State) where
 
     pub submit-known : e < eventCount (s .plan) → firstFault (callRows s (Submit e)) ≡ none
     submit-known u = row-miss (leb (eventCount (s .plan)) e) Unknown [] (lt-leb _ _ u) ∙ rows-none
+
+    pub submit-turns : leb (eventCount (s .plan)) e ≡ turnsDown s (Submit e)
+    submit-turns = go (leb (eventCount (s .plan)) e) refl
+      where
+        go : (b : Bool) → leb (eventCount (s .plan)) e ≡ b → leb (eventCount (s .plan)) e ≡ turnsDown s (Submit e)
+        go true t = t ∙ sym (turns-some s (Submit e) Unknown (submit-unknown (leb-true _ _ t)))
+        go false t = t ∙ sym (turns-none s (Submit e) (submit-known (leb-false _ _ t)))
 
     -- what handing in gives
     pub submit-reply : (t : State) (x : Fate)
@@ -215,6 +238,17 @@ module _ (s : State) where
     pub close-known : hasEvent (s .plan) k ≡ true → closedAt s k ≡ false → firstFault (callRows s (Close k)) ≡ none
     close-known u a = known u ∙ row-miss (closedAt s k) AlreadyClosed [] a ∙ rows-none
 
+    pub close-turns : (not (hasEvent (s .plan) k) || closedAt s k) ≡ turnsDown s (Close k)
+    close-turns = go (hasEvent (s .plan) k) (closedAt s k) refl refl
+      where
+        go : (b d : Bool)
+            → hasEvent (s .plan) k ≡ b
+            → closedAt s k ≡ d
+            → (not (hasEvent (s .plan) k) || closedAt s k) ≡ turnsDown s (Close k)
+        go false d t u = rw t (sym (turns-some s (Close k) Unknown (close-unknown t)))
+        go true true t u = rw (t, u) (sym (turns-some s (Close k) AlreadyClosed (close-again t u)))
+        go true false t u = rw (t, u) (sym (turns-none s (Close k) (close-known t u)))
+
     pub close-reply : (t : State)
         → t ≡ closeStep s k
         → _≡_ {A = Reply} (record { answer = Made; state = t }) (accept s (Close k))
@@ -226,6 +260,13 @@ module _ (s : State) where
 
   pub finish-closed : anyBelow 8 (unclosedAt s) ≡ false → firstFault (callRows s Finish) ≡ none
   finish-closed u = row-miss (anyBelow 8 (unclosedAt s)) NotClosed [] u ∙ rows-none
+
+  pub finish-turns : anyBelow 8 (unclosedAt s) ≡ turnsDown s Finish
+  finish-turns = go (anyBelow 8 (unclosedAt s)) refl
+    where
+      go : (b : Bool) → anyBelow 8 (unclosedAt s) ≡ b → anyBelow 8 (unclosedAt s) ≡ turnsDown s Finish
+      go true t = t ∙ sym (turns-some s Finish NotClosed (finish-unclosed t))
+      go false t = t ∙ sym (turns-none s Finish (finish-closed t))
 
   pub finish-reply : (t : State)
       → t ≡ finish s

@@ -1,5 +1,5 @@
 -- A call: when it is turned down, and what it answers.
-use Rattle.scheduler.specs.Prelude.{ℕ, Bool, not, _&&_, List, [], _∷_, Option, none, some, leb, State, Call, Submit, Close, Finish, CallFault, Unknown, AlreadyClosed, NotClosed, Incoherent, Is, Made, TurnedDown, Reply}
+use Rattle.scheduler.specs.Prelude.{ℕ, Bool, true, false, not, _&&_, List, [], _∷_, Option, none, some, leb, State, Call, Submit, Close, Finish, CallFault, Unknown, AlreadyClosed, NotClosed, Incoherent, Is, Made, TurnedDown, Reply}
 use Rattle.plan.specs.Base.{anyBelow}
 use Rattle.plan.specs.Plans.{eventCount, hasEvent}
 use Rattle.plan.specs.Faults.{firstFault}
@@ -16,6 +16,10 @@ abbrev pub callRows : State → Call → List (Bool × CallFault)
 callRows s (Submit e) = (leb (eventCount (s .plan)) e, Unknown) ∷ []
 callRows s (Close k) = (not (hasEvent (s .plan) k), Unknown) ∷ (closedAt s k, AlreadyClosed) ∷ []
 callRows s Finish = (anyBelow 8 (unclosedAt s), NotClosed) ∷ []
+
+-- one of them applies: what turns a call down on a state that passes number 12 (10.2, 10.3)
+unfoldable pub turnsDown : State → Call → Bool
+turnsDown s c = elim (firstFault (callRows s c)) [ some f ↦ true | none ↦ false ]
 
 unfoldable pub callFault : State → Call → Option CallFault
 callFault s c = firstFault ((not (coherent s), Incoherent) ∷ callRows s c)

@@ -31,7 +31,7 @@ ghost use Rattle.plan.specs.Rules.{forbids, owes};
 ghost use Rattle.scheduler.specs.State.{fateOf, settleAs};
 ghost use Rattle.scheduler.specs.Rules.{stands};
 ghost use Rattle.scheduler.specs.Calls.{settle, breakIf, doAlone, decide, submit, lapse, closeStep, refuseHeld, finish};
-ghost use Rattle.scheduler.specs.Answers.{unclosedAt, turnedDownBy, call};
+ghost use Rattle.scheduler.specs.Answers.{unclosedAt, turnsDown, accept, turnedDownBy, call};
 ghost use Rattle.scheduler.specs.Internal.Turned.{turnOf, lapseIf};
 
 impl State {
@@ -100,6 +100,31 @@ impl State {
             Call::Submit(event) => self.submit(event),
             Call::Close(step) => self.close_step(step),
             Call::Finish => self.finish(),
+        }
+    }
+
+    // Is the call turned down, where the state hangs together? With `after_call` all that a list needs: a sheet's first
+    // state hangs together, and so does every state after it, so number 12 is not tested call by call.
+    pub fn turns_down(self, made: Call) -> bool
+        ensures { λ r. ⌜ r ≡ turnsDown self made ⌝ }
+    {
+        let plan = self.plan;
+        let closed = self.closed;
+        match made {
+            Call::Submit(event) => plan.event_count <= event,
+            Call::Close(step) => !has_event(plan, step) | is_closed_in(closed, step),
+            Call::Finish => self.has_unclosed(),
+        }
+    }
+
+    // The state after a call that is taken.
+    pub fn after_call(self, made: Call) -> State
+        ensures { λ r. ⌜ r ≡ accept self made .state ⌝ }
+    {
+        match made {
+            Call::Submit(event) => self.after_submit(event),
+            Call::Close(step) => self.after_close(step),
+            Call::Finish => self.after_finish(),
         }
     }
 

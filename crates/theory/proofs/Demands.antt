@@ -594,3 +594,8 @@ pub answers-accepted : (bytes : List ℕ) (s : State) (cs : List Call) (c : Call
     → isTurnedDown (call (after scheduler s cs) c .answer)
     ≡ not (accepted (s .plan) (observeAll (s .plan) nothingYet (seen scheduler s cs)) c)
 answers-accepted bytes s cs c read = answer-accepted (sheet-sound bytes s read) (at-list bytes s cs read) c
+
+-- an admitted sheet's first state passes number 12
+pub admitted-coherent : (bytes : List ℕ) (s : State) → readSheet bytes ≡ admitted s → coherent s ≡ true
+unfolding after
+admitted-coherent bytes s read = invariant-coherent (sheet-sound bytes s read) (at-list bytes s [] read .invariant)

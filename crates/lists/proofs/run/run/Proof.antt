@@ -1,6 +1,6 @@
 -- `run` meets its contract: what it comes to, and demand 3 by the theorem of `theory`.
 use borrow.Author.Needs.{needs}
-use Rattle.lists.proofs.Promises.{ran, not-ran, demanded}
+use Rattle.lists.proofs.Promises.{ran, starts, not-ran, demanded}
 use Rattle.lists.proofs.run.run.Statement.{statement}
 use Rattle.lists.proofs.run.run.Tie as tie
 
@@ -11,7 +11,7 @@ enum-told : tie.Need-enum-told
 enum-told c = search needs
 
 take-calls-requires : tie.Need-take-calls-requires
-take-calls-requires c κs = search needs
+take-calls-requires c κs = starts _ _ (c .before .before .before .read-sheet .ensures) (c .enum-told .given .1)
 
 enum-told-2 : tie.Need-enum-told-2
 enum-told-2 c = search needs
