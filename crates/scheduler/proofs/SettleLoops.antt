@@ -20,31 +20,40 @@ use Rattle.plan.specs.Rules.{bars}
 use Rattle.orders.specs.Stepwise.{follows, blocked}
 use Rattle.members.specs.declared.view.View.{View}
 use Rattle.members.specs.Sets.{inSet, orSixteen, Shows}
-use Rattle.scheduler.specs.Orders.{doOne, doAll, chosen, foundOrder}
+use Rattle.scheduler.specs.Orders.{doOne, doAll, chosen, noOrder, foundOrder}
 use Rattle.scheduler.specs.State.{fateOf, settleAs}
 use Rattle.plan.specs.Fates.{isHeld}
 use Rattle.scheduler.specs.Rules.{stands, barred}
 use Rattle.scheduler.specs.Calls.{toRefuse, toDo, settleOnce, settleUpTo, settle, refuseHeld}
 use Rattle.scheduler.specs.Internal.Turned.{turnOf}
-use Rattle.plan.proofs.Tests.{clash, some-none}
+use Rattle.plan.proofs.Tests.{and-left, clash, first-some, when-some, some-none}
 use Rattle.scheduler.proofs.Branches.{upTo-none, upTo-some, lowestHeld, refuse-none, refuse-some}
 use Rattle.plan.proofs.Loops.{Rest, first-here, first-end}
 use Rattle.scheduler.proofs.Searching.{chosen-short}
-use Rattle.scheduler.proofs.SearchLoops.{fits, answer-some, answer-none, lowest-sixteen, lowest-below, lowest-past}
+use Rattle.scheduler.proofs.SearchLoops.{fits, answer-some, answer-none, lowest-sixteen}
 use Rattle.scheduler.proofs.Laws.{fate-past}
-use Rattle.orders.proofs.Lowest.{first-nowhere, lowest-none, lowest-bounds}
+use Rattle.orders.proofs.Lowest.{first-nowhere, lowest-some, lowest-none, lowest-bounds}
 use Rattle.members.proofs.Bits.{in-zero}
 
--- where a search found an order, that is the chosen one, and it stands at the front of the array
+-- where an order of at most six events was found, it stands at the front of the array
+found-front : (q : Option (List ℕ))
+    → ((o : List ℕ) → q ≡ some o → length o ≤ 6)
+    → (r : Found)
+    → r ≡ foundOrder q
+    → r .ok ≡ true
+    → (o : List ℕ) × (q ≡ some o) × (take (r .len) (r .events) ≡ o)
+unfolding foundOrder
+found-front q short r same t =
+    let f = answer-some foundOrder refl (λ o. refl) q r same t in
+    let whole = fits (f .0) (short (f .0) (f .1)) .front-whole in
+    (f .0, f .1, ap (λ (w : Found). take (w .len) (w .events)) (same ∙ ap foundOrder (f .1)) ∙ whole)
+
+-- the chosen one does
 pub order-found : (s : State) (e : ℕ) (r : Found)
     → r ≡ foundOrder (chosen s e)
     → r .ok ≡ true
     → (o : List ℕ) × (chosen s e ≡ some o) × (take (r .len) (r .events) ≡ o)
-unfolding foundOrder
-order-found s e r same t =
-    let f = answer-some foundOrder refl (λ o. refl) (chosen s e) r same t in
-    let whole = fits (f .0) (chosen-short s e (f .0) (f .1)) .front-whole in
-    (f .0, f .1, ap (λ (w : Found). take (w .len) (w .events)) (same ∙ ap foundOrder (f .1)) ∙ whole)
+order-found s e = found-front (chosen s e) (chosen-short s e)
 
 -- where a search found none, there is no chosen order
 pub order-missing : (s : State) (e : ℕ) (r : Found) → r ≡ foundOrder (chosen s e) → r .ok ≡ false → chosen s e ≡ none
@@ -131,18 +140,9 @@ module _ (s : State) (v : View) (w : Shows (s .plan) (fateOf s) v) where
       | no ge ↦ rw (le-ltb x 16 (omega arith), held-past x (omega arith)) (and-false (ltb x (eventCount (s .plan))))
     ]
 
-    refuse-same : toRefuse s ≡ lowest 16 (inSet d)
+    pub refuse-same : toRefuse s ≡ lowest 16 (inSet d)
     unfolding toRefuse
     refuse-same = lowest-bounds (eventCount (s .plan)) 16 (λ e. isHeld (fateOf s e) && barred s e) (inSet d) held-barred
-
-    module _ (e : ℕ) (same : e ≡ orSixteen (lowest 16 (inSet d))) where
-      pub once-refuses : e < 16 → record { moved = true; state = settleAs Refused s e } ≡ turnOf s (settleOnce s)
-      unfolding turnOf settleOnce
-      once-refuses lt = rw (refuse-same ∙ lowest-below (inSet d) e same lt, settleOnce)
-
-      pub once-does : (e < 16 → ⊥) → turnOf s (Option·map (doAll s) (toDo s)) ≡ turnOf s (settleOnce s)
-      unfolding settleOnce
-      once-does n = rw (refuse-same ∙ lowest-past (inSet d) e same n, settleOnce)
 
   -- where nothing is held there is no turn to make
   module _ (e : ℕ) (same : e ≡ orSixteen (lowest 16 (inSet (v .held)))) (q : e ≡ 16) where
@@ -160,13 +160,9 @@ module _ (s : State) (v : View) (w : Shows (s .plan) (fateOf s) v) where
     unfolding toDo
     none-done = first-nowhere (eventCount (s .plan)) 0 _ (λ x lo hi. rw (unheld x (omega arith)))
 
-    none-turned : settleOnce s ≡ none
+    pub none-turned : settleOnce s ≡ none
     unfolding settleOnce
     none-turned = rw (none-refused, none-done, settleOnce)
-
-    pub unheld-rests : (n : ℕ) → 0 < n → settleUpTo n s ≡ s
-    unheld-rests zero lt = absurd (omega arith)
-    unheld-rests (suc n) lt = upTo-none n s none-turned
 
 -- an event that is to be refused in winding up: it is held
 module _ (s : State) (e : ℕ) where
@@ -184,15 +180,70 @@ module _ (s : State) (e : ℕ) where
   abbrev pub doing : Option (List ℕ)
   doing = when (isHeld (fateOf s e)) (chosen s e)
 
-  module _ (r : Found) (same : r ≡ foundOrder (chosen s e)) where
-    pub doing-some : isHeld (fateOf s e) ≡ true → r .ok ≡ true → doing ≡ some (take (r .len) (r .events))
-    doing-some h t = let f = order-found s e r same t in rw (h, f .1, f .2)
+  doing-some : (o : List ℕ) → isHeld (fateOf s e) ≡ true → chosen s e ≡ some o → doing ≡ some o
+  doing-some o h q = rw (h, q)
 
   pub doing-hopeless : isHeld (fateOf s e) ≡ true → chosen s e ≡ none → doing ≡ none
   doing-hopeless h q = rw (h, q)
 
   pub doing-none : isHeld (fateOf s e) ≡ false → doing ≡ none
   doing-none h = rw h
+
+-- the loop over the held events, at its ends
+module _ (s : State) (e : ℕ) (before : Rest (eventCount (s .plan)) (doing s) e) where
+  pub held-found : e < eventCount (s .plan)
+      → isHeld (fateOf s e) ≡ true
+      → (r : Found)
+      → r ≡ foundOrder (chosen s e)
+      → r .ok ≡ true
+      → r ≡ foundOrder (toDo s)
+  unfolding toDo
+  held-found lt h r same t =
+      let f = order-found s e r same t in
+      same ∙ ap foundOrder (f .1 ∙ sym (before ∙ first-here (eventCount (s .plan)) e (doing s) (f .0) lt (doing-some s e (f .0) h (f .1))))
+
+  pub held-none : eventCount (s .plan) ≤ e → noOrder ≡ foundOrder (toDo s)
+  unfolding toDo foundOrder
+  held-none ge = ap foundOrder (sym (before ∙ first-end (eventCount (s .plan)) e (doing s) ge))
+
+-- a turn of settling
+module _ (s : State) where
+  to-do-short : (o : List ℕ) → toDo s ≡ some o → length o ≤ 6
+  unfolding toDo
+  to-do-short o h =
+      let f = first-some (eventCount (s .plan)) 0 (doing s) o h in
+      chosen-short s (f .place) o (when-some (isHeld (fateOf s (f .place))) (chosen s (f .place)) o (f .gives) .1)
+
+  refused-low : (d : ℕ) → toRefuse s ≡ some d → d < 16
+  unfolding toRefuse
+  refused-low d h =
+      let held = and-left (isHeld (fateOf s d)) (barred s d) (lowest-some (eventCount (s .plan)) (λ e. isHeld (fateOf s e) && barred s e) d h .passes) in
+      elim (decLt d 16) [ yes lt ↦ lt | no ge ↦ absurd (clash held (ap isHeld (fate-past s d (omega arith)))) ]
+
+  module _ (e : ℕ) (same : e ≡ orSixteen (toRefuse s)) where
+    pub turn-refuses : e < 16 → settleOnce s ≡ some (settleAs Refused s e)
+    unfolding settleOnce
+    turn-refuses lt = go (toRefuse s) refl
+      where
+        go : (q : Option ℕ) → toRefuse s ≡ q → settleOnce s ≡ some (settleAs Refused s e)
+        go none is = absurd (omega (arith, same ∙ ap orSixteen is))
+        go (some d) is = rw (is, settleOnce) (ap {B = Option State} (λ (x : ℕ). some (settleAs Refused s x)) (sym (same ∙ ap orSixteen is)))
+
+    unrefused : (e < 16 → ⊥) → toRefuse s ≡ none
+    unrefused n = go (toRefuse s) refl
+      where
+        go : (q : Option ℕ) → toRefuse s ≡ q → toRefuse s ≡ none
+        go none is = is
+        go (some d) is = absurd (n (omega (arith, refused-low d is, same ∙ ap orSixteen is)))
+
+    module _ (n : e < 16 → ⊥) (r : Found) (found : r ≡ foundOrder (toDo s)) where
+      pub turn-does : r .ok ≡ true → settleOnce s ≡ some (doAll s (take (r .len) (r .events)))
+      unfolding settleOnce
+      turn-does t = let f = found-front (toDo s) to-do-short r found t in rw (unrefused n, f .1, f .2, settleOnce)
+
+      pub turn-rests : r .ok ≡ false → settleOnce s ≡ none
+      unfolding settleOnce foundOrder
+      turn-rests t = rw (unrefused n, answer-none foundOrder refl (λ o. refl) (toDo s) r found t, settleOnce)
 
 -- whether a turn was made, and the state after it
 module _ (s : State) where
@@ -207,14 +258,14 @@ module _ (s : State) where
   turned-none (some u) r same f = absurd (clash (ap (λ (w : Turned). w .moved) same) f)
 
 -- a loop of turns: none is left to make, or one is made
-module _ (s : State) (r : Turned) (same : r ≡ turnOf s (settleOnce s)) where
-  pub up-rest : (n : ℕ) → 0 < n → r .moved ≡ false → settleUpTo n s ≡ s
-  up-rest zero lt f = absurd (omega arith)
-  up-rest (suc n) lt f = upTo-none n s (turned-none s (settleOnce s) r same f)
+module _ (s : State) where
+  pub up-rest : (n : ℕ) → 0 < n → settleOnce s ≡ none → settleUpTo n s ≡ s
+  up-rest zero lt h = absurd (omega arith)
+  up-rest (suc n) lt h = upTo-none n s h
 
-  pub up-next : (n : ℕ) → 0 < n → r .moved ≡ true → settleUpTo n s ≡ settleUpTo (n - 1) (r .state)
-  up-next zero lt t = absurd (omega arith)
-  up-next (suc n) lt t = upTo-some n s (r .state) (turned-some s (settleOnce s) r same t) ∙ rw sub-one
+  pub up-next : (n : ℕ) → 0 < n → (t : State) → settleOnce s ≡ some t → settleUpTo n s ≡ settleUpTo (n - 1) t
+  up-next zero lt t h = absurd (omega arith)
+  up-next (suc n) lt t h = upTo-some n s t h ∙ rw sub-one
 
 -- no turn may be made any more
 pub up-end : (n : ℕ) (s : State) → n ≤ 0 → settleUpTo n s ≡ s

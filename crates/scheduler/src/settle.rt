@@ -11,13 +11,11 @@ use members::set::without;
 use members::view::View;
 use plan::fate::Fate;
 ghost use mathlib.Core.Path.{_≡_};
-ghost use mathlib.Core.Option.{Option·map};
 ghost use lib.ListN.{take};
-ghost use Rattle.members.specs.Sets.{Shows};
+ghost use Rattle.members.specs.Sets.{orSixteen, Shows};
 ghost use Rattle.scheduler.specs.State.{fateOf};
-ghost use Rattle.scheduler.specs.Orders.{doAll};
-ghost use Rattle.scheduler.specs.Calls.{toDo, settleOnce, settle};
-ghost use Rattle.scheduler.specs.Internal.Turned.{turnOf};
+ghost use Rattle.scheduler.specs.Orders.{doAll, foundOrder};
+ghost use Rattle.scheduler.specs.Calls.{toRefuse, toDo, settle};
 
 // Whether there was a turn to make, and the state after it.
 pub(crate) struct Turned {
@@ -37,11 +35,16 @@ impl State {
             if lowest_of(view.held) == 16 {
                 return next;
             }
-            let turned = next.settle_once(view);
-            if !turned.moved {
-                return next;
+            let barred = next.find_barred(view);
+            if barred < 16 {
+                next = next.settle_as(Fate::Refused, barred);
+            } else {
+                let found = next.find_held(view);
+                if !found.ok {
+                    return next;
+                }
+                next = next.do_order(found);
             }
-            next = turned.state;
             left -= 1;
         }
         next
@@ -63,30 +66,23 @@ impl State {
         next
     }
 
-    // One turn of settling: refuses the lowest held event that is barred, or does an order.
-    fn settle_once(self, view: View) -> Turned
+    // The lowest held event that is barred; 16 if there is none.
+    fn find_barred(self, view: View) -> u8
         requires { ⌜ Shows (self .plan) (fateOf self) view ⌝ }
-        ensures { λ r. ⌜ r ≡ turnOf self (settleOnce self) ⌝ }
+        ensures { λ r. ⌜ r ≡ orSixteen (toRefuse self) ⌝ }
     {
         let plan = self.plan;
         let rules = plan.rules;
         let broken = self.broken;
         let barred = blocked_in(rules, broken, plan.rule_count, view, 0);
-        let e = lowest_of(common(view.held, barred));
-        if e < 16 {
-            return Turned {
-                moved: true,
-                state: self.settle_as(Fate::Refused, e),
-            };
-        }
-        self.do_chosen(view)
+        lowest_of(common(view.held, barred))
     }
 
-    // Does the chosen order of the lowest held event that has one. An event that has none is in no order for another, so
-    // it counts no more as able in this turn.
-    fn do_chosen(self, view: View) -> Turned
+    // The chosen order of the lowest held event that has one. An event that has none is in no order for another, so it
+    // counts no more as able in this turn.
+    fn find_held(self, view: View) -> Found
         requires { ⌜ Shows (self .plan) (fateOf self) view ⌝ }
-        ensures { λ r. ⌜ r ≡ turnOf self (Option·map (doAll self) (toDo self)) ⌝ }
+        ensures { λ r. ⌜ r ≡ foundOrder (toDo self) ⌝ }
     {
         let plan = self.plan;
         let rules = plan.rules;
@@ -101,19 +97,18 @@ impl State {
                 if members.ok {
                     let found = self.find_among(view, members.set);
                     if found.ok {
-                        return Turned {
-                            moved: true,
-                            state: self.do_order(found),
-                        };
+                        return found;
                     }
                 }
                 able = without(able, with_if(0, e, true));
             }
             e += 1;
         }
-        Turned {
-            moved: false,
-            state: self,
+        let blank = [0; 6];
+        Found {
+            ok: false,
+            events: blank,
+            len: 0,
         }
     }
 }

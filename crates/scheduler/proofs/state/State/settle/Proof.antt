@@ -1,9 +1,11 @@
 -- `State::settle` meets its contract. The loop: the turns that are left settle the whole.
+use Prim.Native.Nat.{_-_}
 use native.Mathlib.Omega.{arith}
 use borrow.Author.Tests.{not-true, not-false}
-use mathlib.Core.Path.{_≡_, refl, sym, _∙_}
+use mathlib.Core.Logic.{⊎-elim}
+use mathlib.Core.Path.{_≡_, refl, sym, _∙_, ap}
 use Rattle.scheduler.specs.Calls.{settleUpTo, settle}
-use Rattle.scheduler.proofs.SettleLoops.{unheld-rests, up-rest, up-next, up-end}
+use Rattle.scheduler.proofs.SettleLoops.{none-turned, turn-refuses, turn-does, turn-rests, up-rest, up-next, up-end}
 use Rattle.scheduler.proofs.state.State.settle.Statement.{statement}
 use Rattle.scheduler.proofs.state.State.settle.Tie as tie
 
@@ -26,15 +28,26 @@ lowest-of-requires c κs = tt
 returns : tie.Need-returns Inv-loop μ-loop
 returns c =
     let at = c .before .before .before .before .loop in
-    sym (at .inv ∙ unheld-rests (at .next) (c .before .before .view .result) (c .before .before .view .ensures) (c .before .lowest-of .result) (c .before .lowest-of .ensures) (c .if1 .taken) (at .left) (c .before .before .before .loop-test .taken))
+    let rests = none-turned (at .next) (c .before .before .view .result) (c .before .before .view .ensures) (c .before .lowest-of .result) (c .before .lowest-of .ensures) (c .if1 .taken) in
+    sym (at .inv ∙ up-rest (at .next) (at .left) (c .before .before .before .loop-test .taken) rests)
 
-settle-once-requires : tie.Need-settle-once-requires Inv-loop μ-loop
-settle-once-requires c κs = c .before .before .view .ensures
+find-barred-requires : tie.Need-find-barred-requires Inv-loop μ-loop
+find-barred-requires c κs = c .before .before .view .ensures
+
+settle-as-requires : tie.Need-settle-as-requires Inv-loop μ-loop
+settle-as-requires c κs = tt
+
+find-held-requires : tie.Need-find-held-requires Inv-loop μ-loop
+find-held-requires c κs = c .before .before .before .before .view .ensures
 
 returns-2 : tie.Need-returns-2 Inv-loop μ-loop
 returns-2 c =
-    let at = c .before .before .before .before .before .before .before .loop in
-    sym (at .inv ∙ up-rest (at .next) _ (c .before .before .settle-once .ensures) (at .left) (c .before .before .before .before .before .before .loop-test .taken) (not-true _ (c .if2 .taken)))
+    let at = c .before .before .before .before .before .before .before .before .before .loop in
+    let rests = turn-rests (at .next) (c .before .before .before .before .find-barred .result) (c .before .before .before .before .find-barred .ensures) (λ lt. omega (arith, c .before .before .before .if2 .left)) (c .before .before .find-held .result) (c .before .before .find-held .ensures) (not-true _ (c .if3 .taken)) in
+    sym (at .inv ∙ up-rest (at .next) (at .left) (c .before .before .before .before .before .before .before .before .loop-test .taken) rests)
+
+do-order-requires : tie.Need-do-order-requires Inv-loop μ-loop
+do-order-requires c κs = tt
 
 sub-left : tie.Need-sub-left Inv-loop μ-loop
 sub-left c = omega arith
@@ -44,8 +57,16 @@ loop-less c = omega arith
 
 loop-again : tie.Need-loop-again Inv-loop μ-loop
 loop-again c =
-    let at = c .before .before .before .before .before .before .before .before .loop in
-    at .inv ∙ up-next (at .next) _ (c .before .before .before .settle-once .ensures) (at .left) (c .before .before .before .before .before .before .before .loop-test .taken) (not-false _ (c .before .if2 .left))
+    let at = c .before .before .before .before .before .before .loop in
+    let more = c .before .before .before .before .before .loop-test .taken in
+    let s = at .next in
+    let e = c .before .find-barred .result in
+    let same = c .before .find-barred .ensures in
+    at .inv
+    ∙ ⊎-elim
+    (λ w. up-next s (at .left) more _ (turn-refuses s e same (w .0 .taken)) ∙ ap (settleUpTo (at .left - 1)) (sym (w .2 ∙ w .1 .ensures)))
+    (λ w. up-next s (at .left) more _ (turn-does s e same (λ lt. omega (arith, w .0 .left)) (w .1 .result) (w .1 .ensures) (not-false _ (w .3 .left))) ∙ ap (settleUpTo (at .left - 1)) (sym (w .5 ∙ w .4 .ensures)))
+    (c .if2 .came)
 
 returns-3 : tie.Need-returns-3 Inv-loop μ-loop
 returns-3 c = sym (c .before .loop .inv ∙ up-end (c .before .loop .left) _ (c .loop-test .left))
@@ -60,8 +81,11 @@ settle-spec =
     view-requires
     lowest-of-requires
     returns
-    settle-once-requires
+    find-barred-requires
+    settle-as-requires
+    find-held-requires
     returns-2
+    do-order-requires
     sub-left
     loop-less
     loop-again

@@ -1,4 +1,4 @@
--- `State::do_chosen` meets its contract. The loop: what is left of it from e on is the whole answer, and the events that
+-- `State::find_held` meets its contract. The loop: what is left of it from e on is the whole answer, and the events that
 -- count no more as able have no order.
 use Prim.Native.Nat.{ℕ, _≤_, _-_}
 use native.Mathlib.Omega.{arith}
@@ -9,16 +9,15 @@ use mathlib.Core.Path.{_≡_, refl, sym, _∙_, subst}
 use Rattle.plan.specs.Plans.{eventCount}
 use Rattle.members.specs.Sets.{inSet}
 use Rattle.scheduler.specs.State.{fateOf}
-use Rattle.scheduler.specs.Orders.{doAll, chosen, noOrder}
-use Rattle.scheduler.specs.Calls.{toDo}
+use Rattle.scheduler.specs.Orders.{chosen, noOrder}
 use Rattle.scheduler.specs.Internal.Hopeful.{Hopeful}
 use Rattle.plan.proofs.Loops.{Rest, rest-all, rest-next}
 use Rattle.members.proofs.Bits.{in-below}
 use Rattle.scheduler.proofs.Sizes.{sized}
 use Rattle.scheduler.proofs.SearchLoops.{members-none, members-found, hopeful-all, hopeful-less}
-use Rattle.scheduler.proofs.SettleLoops.{turn-made, turn-none, held-seen, order-missing, doing, doing-some, doing-hopeless, doing-none}
-use Rattle.scheduler.proofs.state.State.do_chosen.Statement.{statement}
-use Rattle.scheduler.proofs.state.State.do_chosen.Tie as tie
+use Rattle.scheduler.proofs.SettleLoops.{held-seen, order-missing, doing, doing-hopeless, doing-none, held-found, held-none}
+use Rattle.scheduler.proofs.state.State.find_held.Statement.{statement}
+use Rattle.scheduler.proofs.state.State.find_held.Tie as tie
 
 abbrev Inv-loop : tie.InvT-loop
 Inv-loop self view rules broken count n able₀ e₀ able e =
@@ -39,18 +38,14 @@ close-set-requires c κs = tt
 find-among-requires : tie.Need-find-among-requires Inv-loop μ-loop
 find-among-requires c κs = tt
 
-do-order-requires : tie.Need-do-order-requires Inv-loop μ-loop
-do-order-requires c κs = tt
-
 returns : tie.Need-returns Inv-loop μ-loop
-unfolding toDo
 returns c =
-    let at = c .before .before .before .before .before .before .before .before .loop in
-    let st = c .before .before .before .before .before .before .before .before .before .before .before .before in
+    let at = c .before .before .before .before .before .before .before .loop in
+    let st = c .before .before .before .before .before .before .before .before .before .before .before in
     let s = st .args .self in
-    let held = held-seen s (st .args .view) (st .pre) (at .e) (omega arith) _ _ (c .before .before .before .before .before .before .is-in .ensures) (c .before .before .before .before .before .if1 .taken) in
-    let same = members-found s (sized s (st .good .0)) (at .e) (at .able) (at .inv .2) (c .before .before .before .before .close-set .result) (c .before .before .before .before .close-set .ensures (s .plan) (fateOf s) refl refl (st .pre)) (c .before .before .before .if2 .taken) (c .before .before .find-among .result) (c .before .before .find-among .ensures) in
-    rw (c .do-order .ensures) (turn-made _ _ (at .e) (at .inv .1) s (doAll s) (omega arith) _ (doing-some s (at .e) _ same held (c .before .if3 .taken)))
+    let held = held-seen s (st .args .view) (st .pre) (at .e) (omega arith) _ _ (c .before .before .before .before .before .is-in .ensures) (c .before .before .before .before .if1 .taken) in
+    let same = members-found s (sized s (st .good .0)) (at .e) (at .able) (at .inv .2) (c .before .before .before .close-set .result) (c .before .before .before .close-set .ensures (s .plan) (fateOf s) refl refl (st .pre)) (c .before .before .if2 .taken) (c .before .find-among .result) (c .before .find-among .ensures) in
+    held-found s (at .e) (at .inv .1) (omega arith) held (c .before .find-among .result) same (c .if3 .taken)
 
 with-if-requires : tie.Need-with-if-requires Inv-loop μ-loop
 with-if-requires c κs = tt
@@ -90,13 +85,10 @@ loop-again c =
     (c .if1 .came)
 
 returns-2 : tie.Need-returns-2 Inv-loop μ-loop
-unfolding toDo
-returns-2 c =
-    let s = c .before .before .before .before .before .args .self in
-    turn-none _ (doing s) (c .before .loop .e) (c .before .loop .inv .1) s (doAll s) (c .loop-test .left)
+returns-2 c = held-none (c .before .before .before .before .before .args .self) (c .before .loop .e) (c .before .loop .inv .1) (c .loop-test .left)
 
-pub do-chosen-spec : {M : Type 1} → statement M
-do-chosen-spec =
+pub find-held-spec : {M : Type 1} → statement M
+find-held-spec =
     tie.close
     (tie.spec
     Inv-loop
@@ -105,7 +97,6 @@ do-chosen-spec =
     is-in-requires
     close-set-requires
     find-among-requires
-    do-order-requires
     returns
     with-if-requires
     without-requires
