@@ -1,5 +1,6 @@
 // The fates and attributes of the sixteen events as sets.
 use super::set::with_if;
+use super::set::without;
 use plan::event::Event;
 use plan::event::is_delayable;
 use plan::event::is_forcible;
@@ -9,8 +10,10 @@ use plan::fate::is_gone;
 use plan::fate::is_held;
 use plan::fate::is_open;
 ghost use mathlib.Core.Path.{_≡_};
-ghost use Rattle.plan.specs.Fates.{fatesOf};
+ghost use Prim.Native.Nat.{_<_};
+ghost use Rattle.plan.specs.Fates.{Fates, fatesOf};
 ghost use Rattle.plan.specs.Plans.{eventCount};
+ghost use Rattle.orders.specs.Runs.{doing};
 ghost use Rattle.members.specs.Prelude.{Plan};
 ghost use Rattle.members.specs.Sets.{Shows};
 
@@ -56,5 +59,19 @@ pub fn view_of(events: [Event; 16], count: u8, standings: [Standing; 16]) -> Vie
         done,
         gone,
         waits,
+    }
+}
+
+// The view after the event is done.
+pub fn view_after(view: View, event: u8) -> View
+    ensures { λ r. ⌜ ((p : Plan) (f : Fates) → event < 16 → Shows p f view → Shows p (doing f event) r) ⌝ }
+{
+    let one = with_if(0, event, true);
+    View {
+        held: without(view.held, one),
+        able: without(view.able, one),
+        done: with_if(view.done, event, true),
+        gone: without(view.gone, one),
+        waits: view.waits,
     }
 }

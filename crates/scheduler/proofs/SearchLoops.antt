@@ -12,6 +12,7 @@ use lib.Dec.{eqb, ltb}
 use lib.ListN.{length, getD, set, replicate}
 use Rattle.scheduler.specs.declared.order.Found.{Found}
 use Rattle.scheduler.specs.Prelude.{take, State}
+use Rattle.plan.specs.Fates.{Fates}
 use Rattle.plan.specs.Base.{tabulate, lowest}
 use Rattle.orders.specs.Runs.{doing}
 use Rattle.orders.specs.Stepwise.{blocked, less, nothing, next, stepwise}
@@ -110,6 +111,15 @@ after-less left x lt one after is-one is-after =
     go : (y : ℕ) (v : Bool) → ((v && (ltb x 16 && true)) || inSet 0 y) ≡ v
     go y true = rw (lt-ltb x 16 lt)
     go y false = in-zero y
+
+-- a view after an event of an order is done
+pub shows-one : (s : State) (x : ℕ) (v : View)
+    → Sized s
+    → x < 16
+    → Shows (s .plan) (doing (fateOf s) x) v
+    → Shows ((doOne s x) .plan) (fateOf (doOne s x)) v
+unfolding settleAs
+shows-one s x v z lt w = subst (λ (f : Fates). Shows (s .plan) f v) (sym (fates-one s x z lt)) w
 
 -- the search from a state
 module _ (s : State) (left at places : ℕ) where

@@ -8,6 +8,7 @@ use members::set::lowest_of;
 use members::set::with_if;
 use members::set::without;
 use members::view::View;
+use members::view::view_after;
 use members::view::view_of;
 use plan::fate::Fate;
 ghost use mathlib.Core.Path.{_≡_};
@@ -50,13 +51,14 @@ impl State {
     // The order of the members. Held events first (7.9): an order in which no open event is forced is made of held members
     // alone, and there is one only where all are held; else the others are forced.
     pub(crate) fn find_among(self, view: View, members: u32) -> Found
+        requires { ⌜ Shows (self .plan) (fateOf self) view ⌝ }
         ensures { λ r. ⌜ r ≡ foundFrom 0 (stepwise (self .plan) (stands self) 6 (fateOf self) (inSet members)) ⌝ }
     {
         let held = common(members, view.held);
         if held == members {
-            return search(self, held, 0, 6);
+            return search(self, view, held, 0, 6);
         }
-        search(self, members, 0, 6)
+        search(self, view, members, 0, 6)
     }
 
     // What a search asks of the state again and again, as sets.
@@ -78,9 +80,10 @@ impl State {
 }
 
 // The events that are left, always the lowest that no other of them has to come before; none if there is no such event,
-// or no place. It goes on an order of `at` events: its own stand at `at` and after, and the length counts both.
-fn search(s: State, left: u32, at: u8, places: u8) -> Found
-    requires { ⌜ at + places ≤ 6 ⌝ }
+// or no place. It goes on an order of `at` events: its own stand at `at` and after, and the length counts both. The view is
+// the state's.
+fn search(s: State, view: View, left: u32, at: u8, places: u8) -> Found
+    requires { ⌜ ((at + places ≤ 6) × Shows (s .plan) (fateOf s) view) ⌝ }
     ensures { λ r. ⌜ r ≡ foundFrom at (stepwise (s .plan) (stands s) places (fateOf s) (inSet left)) ⌝ }
 {
     let blank = [0; 6];
@@ -102,15 +105,10 @@ fn search(s: State, left: u32, at: u8, places: u8) -> Found
     let plan = s.plan;
     let rules = plan.rules;
     let broken = s.broken;
-    let blocked = blocked_in(rules, broken, plan.rule_count, s.view(), left);
-    let x = lowest_of(without(left, blocked));
+    let x = lowest_of(without(left, blocked_in(rules, broken, plan.rule_count, view, left)));
     if x < 16 {
-        let r = search(
-            s.do_one(x),
-            without(left, with_if(0, x, true)),
-            at + 1,
-            places - 1,
-        );
+        let rest = without(left, with_if(0, x, true));
+        let r = search(s.do_one(x), view_after(view, x), rest, at + 1, places - 1);
         if r.ok {
             let mut q = r;
             q.events[at as usize] = x;

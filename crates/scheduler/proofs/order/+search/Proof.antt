@@ -8,19 +8,19 @@ use Rattle.members.proofs.blocked.blocked_in.Reads as blocked-in-reads
 use Rattle.members.proofs.set.lowest_of.Reads as lowest-of-reads
 use Rattle.members.proofs.set.with_if.Reads as with-if-reads
 use Rattle.members.proofs.set.without.Reads as without-reads
+use Rattle.members.proofs.view.view_after.Reads as view-after-reads
 use Rattle.scheduler.specs.State.{fateOf}
 use Rattle.scheduler.proofs.Sizes.{sized}
-use Rattle.scheduler.proofs.SearchLoops.{search-end, search-more, search-full, search-stuck, search-miss, search-hit}
+use Rattle.scheduler.proofs.SearchLoops.{search-end, search-more, search-full, search-stuck, search-miss, search-hit, shows-one}
 use Rattle.scheduler.proofs.order.search.Reads as search′
 use Rattle.scheduler.proofs.order.search.Kinds as search-kinds
 use Rattle.scheduler.proofs.order.+search.Lts-search as search-lts
 use Rattle.scheduler.proofs.state.State.do_one.Reads as do-one-reads
-use Rattle.scheduler.proofs.state.State.view.Reads as view-reads
 use Rattle.scheduler.proofs.order.+search.{statement}
 use Rattle.scheduler.proofs.order.+search.Tie.{close}
 
 abbrev μ-search : Measures 0 search-kinds.ps ℕ
-μ-search κs a = a .1 .1 .1 .0
+μ-search κs a = a .1 .1 .1 .1 .0
 
 abbrev search-at : ℕ → In 0 search-kinds.ps
 search-at t = and 0 search-kinds.ps (is 0 search-kinds.ps μ-search t) search′.Pre
@@ -30,7 +30,7 @@ search-below t = and 0 search-kinds.ps (falls 0 search-kinds.ps _<_ μ-search t)
 
 abbrev claims : ℕ → search-lts.Claims
 claims t =
-    (lowest-of-reads.Asked, lowest-of-reads.Learnt, view-reads.Asked, view-reads.Learnt, blocked-in-reads.Asked, blocked-in-reads.Learnt, without-reads.Asked, without-reads.Learnt, do-one-reads.Asked, do-one-reads.Learnt, with-if-reads.Asked, with-if-reads.Learnt, search-below t, search′.Post)
+    (lowest-of-reads.Asked, lowest-of-reads.Learnt, blocked-in-reads.Asked, blocked-in-reads.Learnt, without-reads.Asked, without-reads.Learnt, with-if-reads.Asked, with-if-reads.Learnt, do-one-reads.Asked, do-one-reads.Learnt, view-after-reads.Asked, view-after-reads.Learnt, search-below t, search′.Post)
 
 module _ (t : ℕ) where
   search-lowest-of-requires : search-lts.Need-lowest-of-requires (claims t) (search-at t) search′.Post
@@ -44,10 +44,8 @@ module _ (t : ℕ) where
   search-returns-2 : search-lts.Need-returns-2 (claims t) (search-at t) search′.Post
   search-returns-2 c =
       let st = c .before .before .before in
-      search-full (st .args .s) (st .args .left) (st .args .at) (st .args .places) (search-more (st .args .s) (st .args .left) (st .args .at) (st .args .places) (c .before .before .lowest-of .result) (c .before .before .lowest-of .ensures) (c .before .if1 .left)) (c .if2 .taken)
-
-  search-view-requires : search-lts.Need-view-requires (claims t) (search-at t) search′.Post
-  search-view-requires c κs = tt
+      let s = st .args .s in
+      search-full s (st .args .left) (st .args .at) (st .args .places) (search-more s (st .args .left) (st .args .at) (st .args .places) (c .before .before .lowest-of .result) (c .before .before .lowest-of .ensures) (c .before .if1 .left)) (c .if2 .taken)
 
   search-blocked-in-requires : search-lts.Need-blocked-in-requires (claims t) (search-at t) search′.Post
   search-blocked-in-requires c κs = tt
@@ -58,48 +56,57 @@ module _ (t : ℕ) where
   search-lowest-of-requires-2 : search-lts.Need-lowest-of-requires-2 (claims t) (search-at t) search′.Post
   search-lowest-of-requires-2 c κs = tt
 
-  search-do-one-requires : search-lts.Need-do-one-requires (claims t) (search-at t) search′.Post
-  search-do-one-requires c κs = tt
-
   search-with-if-requires : search-lts.Need-with-if-requires (claims t) (search-at t) search′.Post
   search-with-if-requires c κs = tt
 
   search-without-requires-2 : search-lts.Need-without-requires-2 (claims t) (search-at t) search′.Post
   search-without-requires-2 c κs = tt
 
+  search-do-one-requires : search-lts.Need-do-one-requires (claims t) (search-at t) search′.Post
+  search-do-one-requires c κs = tt
+
+  search-view-after-requires : search-lts.Need-view-after-requires (claims t) (search-at t) search′.Post
+  search-view-after-requires c κs = tt
+
   search-add-search : search-lts.Need-add-search (claims t) (search-at t) search′.Post
-  search-add-search c = omega arith
+  search-add-search c = omega (arith, c .before .before .before .before .before .before .before .before .before .before .before .before .before .before .pre .1 .0)
 
   search-sub-search : search-lts.Need-sub-search (claims t) (search-at t) search′.Post
-  search-sub-search c = omega arith
+  search-sub-search c = omega (arith, c .before .before .before .before .before .before .before .before .before .before .before .if2 .left)
 
   search-search-requires : search-lts.Need-search-requires (claims t) (search-at t) search′.Post
-  search-search-requires c κs = (omega arith, omega arith)
+  search-search-requires c κs =
+      let st = c .before .before .before .before .before .before .before .before .before .before .before .before .before .before in
+      let s = st .args .s in
+      let lt = c .before .before .before .before .if3 .taken in (
+        omega (arith, c .before .before .before .before .before .before .before .before .before .before .before .if2 .left),
+        (omega (arith, st .pre .1 .0, c .before .before .before .before .before .before .before .before .before .before .before .if2 .left), rw (c .before .do-one .ensures) (shows-one s (c .before .before .before .before .before .lowest-of2 .result) (c .view-after .result) (sized s (st .good .0)) lt (c .view-after .ensures (s .plan) (fateOf s) lt (st .pre .1 .1)))),
+      )
 
   search-element-write-q : search-lts.Need-element-write-q (claims t) (search-at t) search′.Post
-  search-element-write-q c = omega (arith, c .before .before .before .before .before .before .before .before .before .before .before .before .before .before .before .before .pre .1, c .before .before .before .before .before .before .before .before .before .before .before .before .before .if2 .left)
+  search-element-write-q c = omega (arith, c .before .before .before .before .before .before .before .before .before .before .before .before .before .before .before .before .pre .1 .0, c .before .before .before .before .before .before .before .before .before .before .before .before .before .if2 .left)
 
   search-returns-3 : search-lts.Need-returns-3 (claims t) (search-at t) search′.Post
   search-returns-3 c =
       let st = c .before .before .before .before .before .before .before .before .before .before .before .before .before .before .before .before in
       let s = st .args .s in
       search-hit s (st .args .left) (st .args .at) (st .args .places)
-      (c .before .before .before .before .before .before .before .before .blocked-in .result)
-      (c .before .before .before .before .before .before .before .without .result)
-      (c .before .before .before .before .before .before .before .before .blocked-in .ensures (s .plan) (fateOf s) refl refl (c .before .before .before .before .before .before .before .before .before .view .ensures))
-      (c .before .before .before .before .before .before .before .without .ensures)
+      (c .before .before .before .before .before .before .before .before .before .blocked-in .result)
+      (c .before .before .before .before .before .before .before .before .without .result)
+      (c .before .before .before .before .before .before .before .before .before .blocked-in .ensures (s .plan) (fateOf s) refl refl (st .pre .1 .1))
+      (c .before .before .before .before .before .before .before .before .without .ensures)
       (search-more s (st .args .left) (st .args .at) (st .args .places) (c .before .before .before .before .before .before .before .before .before .before .before .before .before .before .before .lowest-of .result) (c .before .before .before .before .before .before .before .before .before .before .before .before .before .before .before .lowest-of .ensures) (c .before .before .before .before .before .before .before .before .before .before .before .before .before .before .if1 .left))
       (c .before .before .before .before .before .before .before .before .before .before .before .before .before .if2 .left)
-      (c .before .before .before .before .before .before .lowest-of2 .result)
-      (c .before .before .before .before .before .before .lowest-of2 .ensures)
+      (c .before .before .before .before .before .before .before .lowest-of2 .result)
+      (c .before .before .before .before .before .before .before .lowest-of2 .ensures)
       (sized s (st .good .0))
-      (c .before .before .before .before .before .if3 .taken)
-      (c .before .before .before .with-if .result)
-      (c .before .before .without2 .result)
-      (c .before .before .before .with-if .ensures)
-      (c .before .before .without2 .ensures)
+      (c .before .before .before .before .before .before .if3 .taken)
+      (c .before .before .before .before .before .with-if .result)
+      (c .before .before .before .before .without2 .result)
+      (c .before .before .before .before .before .with-if .ensures)
+      (c .before .before .before .before .without2 .ensures)
       (c .before .search .result)
-      (rw (c .before .before .before .before .do-one .ensures) at (c .before .search .ensures))
+      (rw (c .before .before .before .do-one .ensures) at (c .before .search .ensures))
       (c .if4 .taken)
 
   search-returns-4 : search-lts.Need-returns-4 (claims t) (search-at t) search′.Post
@@ -107,35 +114,35 @@ module _ (t : ℕ) where
       let st = c .before .before .before .before .before .before .before .before .before .before .before .before .before .before .before .before in
       let s = st .args .s in
       search-miss s (st .args .left) (st .args .at) (st .args .places)
-      (c .before .before .before .before .before .before .before .before .blocked-in .result)
-      (c .before .before .before .before .before .before .before .without .result)
-      (c .before .before .before .before .before .before .before .before .blocked-in .ensures (s .plan) (fateOf s) refl refl (c .before .before .before .before .before .before .before .before .before .view .ensures))
-      (c .before .before .before .before .before .before .before .without .ensures)
+      (c .before .before .before .before .before .before .before .before .before .blocked-in .result)
+      (c .before .before .before .before .before .before .before .before .without .result)
+      (c .before .before .before .before .before .before .before .before .before .blocked-in .ensures (s .plan) (fateOf s) refl refl (st .pre .1 .1))
+      (c .before .before .before .before .before .before .before .before .without .ensures)
       (search-more s (st .args .left) (st .args .at) (st .args .places) (c .before .before .before .before .before .before .before .before .before .before .before .before .before .before .before .lowest-of .result) (c .before .before .before .before .before .before .before .before .before .before .before .before .before .before .before .lowest-of .ensures) (c .before .before .before .before .before .before .before .before .before .before .before .before .before .before .if1 .left))
       (c .before .before .before .before .before .before .before .before .before .before .before .before .before .if2 .left)
-      (c .before .before .before .before .before .before .lowest-of2 .result)
-      (c .before .before .before .before .before .before .lowest-of2 .ensures)
+      (c .before .before .before .before .before .before .before .lowest-of2 .result)
+      (c .before .before .before .before .before .before .before .lowest-of2 .ensures)
       (sized s (st .good .0))
-      (c .before .before .before .before .before .if3 .taken)
-      (c .before .before .before .with-if .result)
-      (c .before .before .without2 .result)
-      (c .before .before .before .with-if .ensures)
-      (c .before .before .without2 .ensures)
+      (c .before .before .before .before .before .before .if3 .taken)
+      (c .before .before .before .before .before .with-if .result)
+      (c .before .before .before .before .without2 .result)
+      (c .before .before .before .before .before .with-if .ensures)
+      (c .before .before .before .before .without2 .ensures)
       (c .before .search .result)
-      (rw (c .before .before .before .before .do-one .ensures) at (c .before .search .ensures))
+      (rw (c .before .before .before .do-one .ensures) at (c .before .search .ensures))
       (c .if4 .left)
 
   search-returns-5 : search-lts.Need-returns-5 (claims t) (search-at t) search′.Post
   search-returns-5 c =
-      let st = c .before .before .before .before .before .before .before .before .before .before .before in
+      let st = c .before .before .before .before .before .before .before .before .before .before in
       let s = st .args .s in
       search-stuck s (st .args .left) (st .args .at) (st .args .places)
       (c .before .before .before .blocked-in .result)
       (c .before .before .without .result)
-      (c .before .before .before .blocked-in .ensures (s .plan) (fateOf s) refl refl (c .before .before .before .before .view .ensures))
+      (c .before .before .before .blocked-in .ensures (s .plan) (fateOf s) refl refl (st .pre .1 .1))
       (c .before .before .without .ensures)
-      (search-more s (st .args .left) (st .args .at) (st .args .places) (c .before .before .before .before .before .before .before .before .before .before .lowest-of .result) (c .before .before .before .before .before .before .before .before .before .before .lowest-of .ensures) (c .before .before .before .before .before .before .before .before .before .if1 .left))
-      (c .before .before .before .before .before .before .before .before .if2 .left)
+      (search-more s (st .args .left) (st .args .at) (st .args .places) (c .before .before .before .before .before .before .before .before .before .lowest-of .result) (c .before .before .before .before .before .before .before .before .before .lowest-of .ensures) (c .before .before .before .before .before .before .before .before .if1 .left))
+      (c .before .before .before .before .before .before .before .if2 .left)
       (c .before .lowest-of2 .result)
       (c .before .lowest-of2 .ensures)
       (λ lt. omega (arith, c .if3 .left))
@@ -147,13 +154,13 @@ pub +search-spec : {M : Type 1} → statement M
     (search-lowest-of-requires t)
     (search-returns t)
     (search-returns-2 t)
-    (search-view-requires t)
     (search-blocked-in-requires t)
     (search-without-requires t)
     (search-lowest-of-requires-2 t)
-    (search-do-one-requires t)
     (search-with-if-requires t)
     (search-without-requires-2 t)
+    (search-do-one-requires t)
+    (search-view-after-requires t)
     (search-add-search t)
     (search-sub-search t)
     (search-search-requires t)

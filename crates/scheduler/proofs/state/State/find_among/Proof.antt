@@ -11,7 +11,7 @@ common-requires : tie.Need-common-requires
 common-requires c κs = tt
 
 search-requires : tie.Need-search-requires
-search-requires c κs = omega arith
+search-requires c κs = (omega arith, c .before .before .pre)
 
 returns : tie.Need-returns
 returns c =
@@ -19,7 +19,7 @@ returns c =
     subst (λ (v : ℕ). c .search .result ≡ foundFrom 0 (steps s v 0 6)) (c .before .if1 .taken) (c .search .ensures)
 
 search-requires-2 : tie.Need-search-requires-2
-search-requires-2 c κs = omega arith
+search-requires-2 c κs = (omega arith, c .before .before .pre)
 
 returns-2 : tie.Need-returns-2
 returns-2 c = c .search2 .ensures

@@ -36,7 +36,7 @@ close-set-requires : tie.Need-close-set-requires Inv-loop μ-loop
 close-set-requires c κs = tt
 
 find-among-requires : tie.Need-find-among-requires Inv-loop μ-loop
-find-among-requires c κs = tt
+find-among-requires c κs = c .before .before .before .before .before .before .before .before .before .pre
 
 returns : tie.Need-returns Inv-loop μ-loop
 returns c =

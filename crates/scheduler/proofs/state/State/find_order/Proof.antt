@@ -13,7 +13,7 @@ close-set-requires : tie.Need-close-set-requires
 close-set-requires c κs = tt
 
 find-among-requires : tie.Need-find-among-requires
-find-among-requires c κs = tt
+find-among-requires c κs = c .before .before .before .before .before .view .ensures
 
 returns : tie.Need-returns
 returns c =
