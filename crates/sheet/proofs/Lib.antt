@@ -5,3 +5,6 @@ pub mod Rooms
 pub mod ProgressLaws
 pub mod Reading
 pub mod ReaderOwned
+pub mod ArrayStore
+pub mod PlanStored
+pub mod KindLaws

@@ -1,24 +1,27 @@
 -- Reading record after record comes to what the sheet comes to.
 use Prim.Native.Nat.{ℕ, zero, suc, _+_, _-_, _≤_, _<_}
-use mathlib.Core.Bool.{Bool, true, false, cond}
+use mathlib.Core.Bool.{true, false}
 use mathlib.Core.List.{List}
 use mathlib.Core.Logic.{inl, inr}
 use mathlib.Core.Option.{Option, none, some}
 use mathlib.Core.Path.{_≡_, refl, sym, _∙_, ap}
 use native.Mathlib.Omega.{arith}
+use borrow.Author.Tests.{eq-eqb}
 use lib.Dec.{eqb, ltb}
 use lib.ListN.{length}
+use Rattle.plan.specs.Plans.{emptyPlan}
 use Rattle.plan.specs.Records.{bodyLength, recordAt, declare, recordFault}
 use Rattle.plan.specs.Sheets.{whole, faulty, readFrom, readPlan, ending, sheetPlan}
 use Rattle.plan.proofs.Tests.{clash, either}
 use Rattle.plan.proofs.SheetReading.{read-enough}
 use Rattle.scheduler.specs.Sheet.{readSheet}
-use Rattle.sheet.specs.Types.{Plan, Record, SheetFault, Extra, Verdict, Admitted, Faulty, Progress}
-use Rattle.sheet.specs.Internal.Progress.{endVerdict, started, stopped, takeRecord, readingOf}
+use Rattle.sheet.specs.Types.{Plan, Record, SheetFault, Extra, Admitted, Faulty, Judged}
+use Rattle.sheet.specs.Internal.Progress.{endVerdict, judge, readingOf}
 use Rattle.sheet.specs.Internal.Place.{placeAfter}
 use Rattle.sheet.proofs.RecordLaws.{place-inside}
 use Rattle.plan.proofs.FaultlessRecords.{faultless}
-use Rattle.sheet.proofs.ProgressLaws.{next, take-fault, take-end, take-next}
+use Rattle.sheet.proofs.Rooms.{Room, room}
+use Rattle.sheet.proofs.ProgressLaws.{judge-fault, judge-end, judge-next}
 
 -- the branches of `readFrom`
 module _ (n : ℕ) (b : List ℕ) (at : ℕ) (p : Plan) where
@@ -67,26 +70,11 @@ pub record Left (b : List ℕ) (at : ℕ) (p : Plan) : Type 0 where
   pub enough : length b ≤ budget + at
   pub same : readFrom (suc budget) b at p ≡ readPlan b
 
--- a reading under way at an offset, or stopped
-pub record Underway (b : List ℕ) (at : ℕ) (p : Progress) : Type 0 where
-  pub on : p .going ≡ true → Left b at (p .plan)
-  pub done : p .going ≡ false → readingOf (p .verdict) (p .plan) ≡ readSheet b
+pub begins : (b : List ℕ) → Left b 0 emptyPlan
+begins b = record { budget = length b; enough = omega arith; same = read-enough (suc (length b)) b (omega arith) }
 
-abbrev pub leftOf : List ℕ → ℕ → Progress → ℕ
-leftOf b at p = cond (p .going) (suc (length b - at)) 0
-
-pub begins : (b : List ℕ) → Underway b 0 started
-begins b = record {
-  on = λ g. record { budget = length b; enough = omega arith; same = read-enough (suc (length b)) b (omega arith) };
-  done = λ g. absurd (clash refl g);
-}
-
-is-stopped : (b : List ℕ) (at : ℕ) (p : Progress) (v : Verdict) → readingOf v (p .plan) ≡ readSheet b
-    → Underway b at (stopped p v)
-is-stopped b at p v h = record { on = λ g. absurd (clash g refl); done = λ g. h }
-
--- a turn: the record at the offset is taken, and the offset is the next record's
-module _ (b : List ℕ) (at : ℕ) (p : Progress) (g : p .going ≡ true) where
+-- a turn: the record at the offset is judged, and the offset is the next record's
+module _ (b : List ℕ) (at : ℕ) (p : Plan) where
   abbrev rec : Record
   rec = recordAt b at
 
@@ -96,40 +84,48 @@ module _ (b : List ℕ) (at : ℕ) (p : Progress) (g : p .going ≡ true) where
   abbrev after : ℕ
   after = placeAfter len at rec
 
-  abbrev taken : Progress
-  taken = takeRecord p len at rec
+  abbrev judged : Judged
+  judged = judge p len at rec
 
-  module _ (h : recordFault (p .plan) len at rec ≡ none) where
+  -- where the reading stops, it has come to what the sheet comes to
+  pub stopped : Left b at p → judged .stops ≡ true → readingOf (judged .verdict) p ≡ readSheet b
+  stopped l t = go (recordFault p len at rec) refl
+    where
+      go : (o : Option SheetFault) → recordFault p len at rec ≡ o → readingOf (judged .verdict) p ≡ readSheet b
+      go (some f) h = ap (λ (j : Judged). readingOf (j .verdict) p) (judge-fault p len at rec f h) ∙ sheet-faulty b p f at (sym (l .same) ∙ read-fault (l .budget) b at p f h)
+      go none h = elim (either (eqb (rec .kind) 5)) [
+        | inl k ↦ ap (λ (j : Judged). readingOf (j .verdict) p) (judge-end p len at rec h k) ∙ sheet-end b p at (sym (l .same) ∙ read-end (l .budget) b at p h k)
+        | inr k ↦ absurd (clash t (ap (λ (j : Judged). j .stops) (judge-next p len at rec h k)))
+      ]
+
+  module _ (t : judged .stops ≡ false) where
+    -- where it goes on, the record has no fault and is not the last
+    pub fine : recordFault p len at rec ≡ none
+    fine = go (recordFault p len at rec) refl
+      where
+        go : (o : Option SheetFault) → recordFault p len at rec ≡ o → recordFault p len at rec ≡ none
+        go (some f) h = absurd (clash (ap (λ (j : Judged). j .stops) (judge-fault p len at rec f h)) t)
+        go none h = h
+
+    not-last : eqb (rec .kind) 5 ≡ false
+    not-last = elim (either (eqb (rec .kind) 5)) [
+      | inl k ↦ absurd (clash (ap (λ (j : Judged). j .stops) (judge-end p len at rec fine k)) t)
+      | inr k ↦ k
+    ]
+
     moved : after ≡ at + 1 + bodyLength (rec .kind)
-    moved = place-inside len at rec (faultless (p .plan) len at rec h .inside)
+    moved = place-inside len at rec (faultless p len at rec fine .inside)
 
-  pub again : Underway b at p → Underway b after taken
-  again u = go (recordFault (p .plan) len at rec) refl
-    where
-      l : Left b at (p .plan)
-      l = u .on g
+    pub again : Left b at p → Left b after (declare p rec)
+    again l = more (l .budget) (l .enough) (l .same)
+      where
+        more : (n : ℕ) → len ≤ n + at → readFrom (suc n) b at p ≡ readPlan b → Left b after (declare p rec)
+        more zero e s = absurd (omega (arith, faultless p len at rec fine .inside))
+        more (suc n) e s = rw (moved) (record { budget = n; enough = omega arith; same = sym (read-next (suc n) b at p fine not-last) ∙ s })
 
-      more : (n : ℕ) → len ≤ n + at → readFrom (suc n) b at (p .plan) ≡ readPlan b
-          → recordFault (p .plan) len at rec ≡ none → eqb (rec .kind) 5 ≡ false → Underway b after (next p len at rec)
-      more zero e s h k = absurd (omega (arith, faultless (p .plan) len at rec h .inside))
-      more (suc n) e s h k = rw (moved h) (record { on = λ g′. record { budget = n; enough = omega arith; same = sym (read-next (suc n) b at (p .plan) h k) ∙ s }; done = λ g′. absurd (clash refl g′) })
+    pub less : len - after < len - at
+    less = omega (arith, moved, faultless p len at rec fine .whole, faultless p len at rec fine .inside)
 
-      go : (o : Option SheetFault) → recordFault (p .plan) len at rec ≡ o → Underway b after taken
-      go (some f) h = rw (take-fault p len at rec f h) (is-stopped b after p _ (sheet-faulty b (p .plan) f at (sym (l .same) ∙ read-fault (l .budget) b at (p .plan) f h)))
-      go none h = elim (either (eqb (rec .kind) 5)) [
-        | inl k ↦ rw (take-end p len at rec h k) (is-stopped b after p _ (sheet-end b (p .plan) at (sym (l .same) ∙ read-end (l .budget) b at (p .plan) h k)))
-        | inr k ↦ rw (take-next p len at rec h k) (more (l .budget) (l .enough) (l .same) h k)
-      ]
-
-  pub less : leftOf b after taken < leftOf b at p
-  less = go (recordFault (p .plan) len at rec) refl
-    where
-      now-left : leftOf b at p ≡ suc (len - at)
-      now-left = ap (λ (t : Bool). cond t (suc (len - at)) 0) g
-
-      go : (o : Option SheetFault) → recordFault (p .plan) len at rec ≡ o → leftOf b after taken < leftOf b at p
-      go (some f) h = omega (arith, now-left, ap (leftOf b after) (take-fault p len at rec f h))
-      go none h = elim (either (eqb (rec .kind) 5)) [
-        | inl k ↦ omega (arith, now-left, ap (leftOf b after) (take-end p len at rec h k))
-        | inr k ↦ omega (arith, now-left, ap (leftOf b after) (take-next p len at rec h k), moved h, faultless (p .plan) len at rec h .whole)
-      ]
+    -- and the plan has a place for what it declares
+    pub has-room : Room p (rec .kind)
+    has-room = room (faultless p len at rec fine) (λ e. clash (eq-eqb (rec .kind) 5 e) not-last)

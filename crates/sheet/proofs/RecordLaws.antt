@@ -2,13 +2,12 @@
 -- what it declares.
 use Prim.Native.Nat.{ℕ, _+_, _≤_, _<_}
 use mathlib.Core.List.{List}
-use mathlib.Core.Path.{_≡_, refl}
+use mathlib.Core.Path.{_≡_}
 use native.Mathlib.Numerals.{add-one}
 use native.Mathlib.Omega.{arith}
 use lib.ListN.{length, getD, drop}
 use lib.Seq.{drop-cons}
 use borrow.Author.Tests.{lt-ltb, le-ltb, eq-eqb, ne-eqb}
-use Rattle.plan.specs.Plans.{eventCount}
 use Rattle.plan.specs.Records.{bodyLength, recordAt, ruleOf, addEvent, addRule, addEvents, table1, declare}
 use Rattle.plan.proofs.ByteReads.{past-end}
 use Rattle.sheet.specs.Types.{Order, Need, Conditional, Plan, Record}
@@ -37,10 +36,6 @@ add-next p k i h = rw (add-one, drop-cons table1 i 0)
 pub all-added : (p : Plan) (k i : ℕ) → i ≤ length table1 → length table1 ≤ i → p ≡ addEvents p k (drop i table1)
 unfolding addEvents
 all-added p k i a b = let e : i ≡ length table1 = omega arith in rw e
-
-pub count-next : (p : Plan) (k a : ℕ) → eventCount (addEvent p k a) ≡ eventCount p + 1
-unfolding addEvent
-count-next p k a = refl
 
 -- the branches of `ruleOf` and of `declare`
 module _ (r : Record) where

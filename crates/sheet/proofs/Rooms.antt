@@ -1,11 +1,17 @@
 -- A plan has room for what a record without a fault declares.
-use Prim.Native.Nat.{ℕ, zero, suc, _≤_}
+use Prim.Native.Nat.{ℕ, zero, suc, _+_, _≤_, _<_}
 use mathlib.Core.Path.{_≡_, refl, ap}
 use native.Mathlib.Omega.{arith}
+use Rattle.plan.specs.Plans.{eventCount, ruleCount}
 use Rattle.plan.specs.Records.{newEvents, newRules}
 use Rattle.plan.proofs.FaultlessRecords.{Faultless}
 use Rattle.sheet.specs.Types.{Plan, Record}
-use Rattle.sheet.specs.Internal.Progress.{Room}
+
+-- the plan has a place for what a record of kind k declares
+pub record Room (p : Plan) (k : ℕ) : Type 0 where
+  pub one : k ≡ 1 → eventCount p < 16
+  pub four : k ≡ 6 → eventCount p + 4 ≤ 16
+  pub rule : (k ≡ 1 → ⊥) → (k ≡ 6 → ⊥) → ruleCount p < 16
 
 -- a kind that is neither 1, 5 nor 6 declares a rule
 rule-kind : (k : ℕ) → (k ≡ 0 → ⊥) → k ≤ 6 → (k ≡ 1 → ⊥) → (k ≡ 5 → ⊥) → (k ≡ 6 → ⊥) → newRules k ≡ 1
@@ -18,7 +24,6 @@ rule-kind (suc (suc (suc (suc (suc zero))))) l h a b d = absurd (b refl)
 rule-kind (suc (suc (suc (suc (suc (suc zero)))))) l h a b d = absurd (d refl)
 rule-kind (suc (suc (suc (suc (suc (suc (suc k))))))) l h a b d = absurd (omega arith)
 
--- the plan has a place for what it declares
 pub room : {p : Plan} {len at : ℕ} {r : Record} → Faultless p len at r → (r .kind ≡ 5 → ⊥) → Room p (r .kind)
 room {p} {len} {at} {r} q five = record {
   one = λ e. omega (arith, ap newEvents e, q .events);

@@ -1,6 +1,4 @@
-// What records declare, added to a plan, and the first state of a plan.
-use super::kind::EVENT;
-use super::kind::FOUR_EVENTS;
+// What records declare, and the first state of a plan.
 use super::kind::rule_of;
 use plan::event::Event;
 use plan::fate::Fate;
@@ -8,32 +6,34 @@ use plan::fate::Standing;
 use plan::history::Entry;
 use plan::plan::Plan;
 use plan::record::Record;
-use plan::rule::Rule;
 use plan::rule::RuleLine;
 use scheduler::state::State;
 ghost use mathlib.Core.Path.{_≡_};
-ghost use Prim.Native.Nat.{_+_, _≤_, _<_};
-ghost use Rattle.plan.specs.Plans.{eventCount, ruleCount};
-ghost use Rattle.plan.specs.Records.{addEvent, addRule, addEvents, table1, declare};
+ghost use Prim.Native.Nat.{_+_, _≤_};
+ghost use Rattle.plan.specs.Plans.{eventCount};
+ghost use Rattle.plan.specs.Records.{addEvents, table1};
 ghost use Rattle.scheduler.specs.State.{firstState};
-ghost use Rattle.sheet.specs.Internal.Progress.{Room};
+ghost use Rattle.sheet.specs.Internal.Progress.{eventOf, lineOf};
 
 // The attributes of a kind 6 record's events: st, pr, cm, ab of the paper's table 1.
 const TABLE_1: [u8; 4] = [7, 0, 6, 1];
 
-// The plan with what a record declares.
-pub(crate) fn declare(plan: Plan, rec: Record) -> Plan
-    requires { ⌜ Room plan (rec .kind) ⌝ }
-    ensures { λ r. ⌜ r ≡ declare plan rec ⌝ }
+// The event of a record of kind 1.
+pub(crate) fn event_of(rec: Record) -> Event
+    ensures { λ r. ⌜ r ≡ eventOf rec ⌝ }
 {
-    let kind = rec.kind;
-    if kind == EVENT {
-        return add_event(plan, rec.x, rec.y);
+    Event {
+        step: rec.x,
+        attributes: rec.y,
     }
-    if kind == FOUR_EVENTS {
-        return add_events(plan, rec.x);
-    }
-    add_rule(plan, rule_of(rec))
+}
+
+// The rule of a record of kind 2, 3 or 4, in its place.
+pub(crate) fn line_of(rec: Record) -> RuleLine
+    ensures { λ r. ⌜ r ≡ lineOf rec ⌝ }
+{
+    let rule = rule_of(rec);
+    RuleLine { rule }
 }
 
 // An admitted sheet's first state.
@@ -57,38 +57,19 @@ pub(crate) fn first_state(plan: Plan) -> State
     }
 }
 
-fn add_event(plan: Plan, step: u8, attributes: u8) -> Plan
-    requires { ⌜ eventCount plan < 16 ⌝ }
-    ensures { λ r. ⌜ r ≡ addEvent plan step attributes ⌝ }
-{
-    let n = plan.event_count;
-    let mut next = plan;
-    next.events[n as usize] = Event { step, attributes };
-    next.event_count = n + 1;
-    next
-}
-
-// The four events of a kind 6 record.
-fn add_events(plan: Plan, step: u8) -> Plan
+// The four events of a kind 6 record, stored one after another into a copy of the plan.
+pub(crate) fn add_events(plan: Plan, step: u8) -> Plan
     requires { ⌜ eventCount plan + 4 ≤ 16 ⌝ }
     ensures { λ r. ⌜ r ≡ addEvents plan step table1 ⌝ }
 {
     let mut next = plan;
     let mut i: usize = 0;
     while i < 4 {
-        next = add_event(next, step, TABLE_1[i]);
+        let n = next.event_count;
+        let attributes = TABLE_1[i];
+        next.events[n as usize] = Event { step, attributes };
+        next.event_count = n + 1;
         i += 1;
     }
-    next
-}
-
-fn add_rule(plan: Plan, rule: Rule) -> Plan
-    requires { ⌜ ruleCount plan < 16 ⌝ }
-    ensures { λ r. ⌜ r ≡ addRule plan rule ⌝ }
-{
-    let n = plan.rule_count;
-    let mut next = plan;
-    next.rules[n as usize] = RuleLine { rule };
-    next.rule_count = n + 1;
     next
 }

@@ -1,5 +1,4 @@
 // The kinds of records: the length of a body, what it declares, and the rule of a rule's record.
-use plan::bytes::byte_at;
 use plan::record::Record;
 use plan::rule::Rule;
 ghost use mathlib.Core.Path.{_≡_};
@@ -16,29 +15,40 @@ pub(crate) const END: u8 = 5;
 
 pub(crate) const FOUR_EVENTS: u8 = 6;
 
-// By kind, 0 to 6: the length of the body, and how many events and rules it declares.
-const BODY_LENGTHS: [u8; 7] = [0, 2, 2, 2, 3, 0, 1];
-
-const NEW_EVENTS: [u8; 7] = [0, 1, 0, 0, 0, 0, 4];
-
-const NEW_RULES: [u8; 7] = [0, 0, 1, 1, 1, 0, 0];
-
+// By kind: the length of the body, and how many events and rules it declares. An array in place of the arms would be
+// written out anew at every call.
 pub(crate) fn body_length(kind: u8) -> u8
     ensures { λ r. ⌜ r ≡ bodyLength kind ⌝ }
 {
-    byte_at(&BODY_LENGTHS, kind as usize)
+    match kind {
+        1 => 2,
+        2 => 2,
+        3 => 2,
+        4 => 3,
+        6 => 1,
+        _ => 0,
+    }
 }
 
 pub(crate) fn new_events(kind: u8) -> u8
     ensures { λ r. ⌜ r ≡ newEvents kind ⌝ }
 {
-    byte_at(&NEW_EVENTS, kind as usize)
+    match kind {
+        1 => 1,
+        6 => 4,
+        _ => 0,
+    }
 }
 
 pub(crate) fn new_rules(kind: u8) -> u8
     ensures { λ r. ⌜ r ≡ newRules kind ⌝ }
 {
-    byte_at(&NEW_RULES, kind as usize)
+    match kind {
+        2 => 1,
+        3 => 1,
+        4 => 1,
+        _ => 0,
+    }
 }
 
 // The rule of a record of kind 2, 3 or 4.

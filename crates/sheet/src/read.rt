@@ -1,9 +1,13 @@
 // Reading a sheet record after record, until a fault or its end.
-use super::declare::declare;
+use super::declare::add_events;
+use super::declare::event_of;
 use super::declare::first_state;
+use super::declare::line_of;
 use super::fault::Check;
 use super::fault::check_record;
 use super::kind::END;
+use super::kind::EVENT;
+use super::kind::FOUR_EVENTS;
 use super::reader::moved_past;
 use super::reader::new_reader;
 use super::reader::next_record;
@@ -15,71 +19,71 @@ use plan::record::Record;
 use scheduler::reply::Reading;
 ghost use mathlib.Core.Path.{_≡_};
 ghost use Rattle.scheduler.specs.Sheet.{readSheet};
-ghost use Rattle.sheet.specs.Internal.Progress.{verdictOf, started, stopped, takeRecord, readingOf};
+ghost use Rattle.sheet.specs.Internal.Progress.{verdictOf, judge, stop, readingOf};
 
-// What a reading has come to: the plan so far, or what the sheet comes to.
-pub(crate) struct Progress {
-    pub plan: Plan,
-    pub going: bool,
+// What a record's reading says: whether it ends the reading, and what the sheet then comes to.
+pub(crate) struct Judged {
+    pub stops: bool,
     pub verdict: Verdict,
 }
 
-// A sheet is admitted, or turned down with its first fault and the fault's offset.
+// A sheet is admitted, or turned down with its first fault and the fault's offset. What a record declares is stored
+// into the plan in its place: a copy of the plan for each record would take most of the time.
 pub fn read_sheet(sheet: &[u8]) -> Reading
     ensures { λ r. ⌜ r ≡ readSheet (now (sheet .entry)) ⌝ }
 {
     let mut reader = new_reader(sheet);
-    let mut progress = started();
-    while progress.going {
+    let mut plan = empty_plan();
+    loop {
         let rec = next_record(reader);
-        progress = take_record(progress, sheet.len(), reader.at, rec);
+        let judged = judge(plan, sheet.len(), reader.at, rec);
+        if judged.stops {
+            return reading_of(plan, judged);
+        }
         reader = moved_past(reader, rec);
+        if rec.kind == EVENT {
+            let n = plan.event_count;
+            plan.events[n as usize] = event_of(rec);
+            plan.event_count = n + 1;
+        } else {
+            if rec.kind == FOUR_EVENTS {
+                plan = add_events(plan, rec.x);
+            } else {
+                let m = plan.rule_count;
+                plan.rules[m as usize] = line_of(rec);
+                plan.rule_count = m + 1;
+            }
+        }
     }
-    reading_of(progress)
 }
 
-// The reading before the first record.
-fn started() -> Progress
-    ensures { λ r. ⌜ r ≡ started ⌝ }
+// The record at an offset of a sheet of some length: a fault and kind 5 end the reading.
+fn judge(plan: Plan, len: usize, at: usize, rec: Record) -> Judged
+    ensures { λ r. ⌜ r ≡ judge plan len at rec ⌝ }
 {
-    Progress {
-        plan: empty_plan(),
-        going: true,
-        verdict: Verdict::Admitted,
-    }
-}
-
-// The reading after the record at an offset of a sheet of some length.
-fn take_record(progress: Progress, len: usize, at: usize, rec: Record) -> Progress
-    ensures { λ r. ⌜ r ≡ takeRecord progress len at rec ⌝ }
-{
-    let plan = progress.plan;
     let kind = rec.kind;
     let check = check_record(plan, len, at, rec);
     let Check::Fine = check else {
-        return stopped(progress, verdict_of(check, at));
+        return stop(verdict_of(check, at));
     };
     if kind == END {
         if at + 1 < len {
-            return stopped(progress, Verdict::Faulty(SheetFault::Extra, at + 1));
+            return stop(Verdict::Faulty(SheetFault::Extra, at + 1));
         }
-        return stopped(progress, Verdict::Admitted);
+        return stop(Verdict::Admitted);
     }
-    Progress {
-        plan: declare(plan, rec),
-        going: true,
+    Judged {
+        stops: false,
         verdict: Verdict::Admitted,
     }
 }
 
-// The reading stopped, with what the sheet comes to.
-fn stopped(progress: Progress, verdict: Verdict) -> Progress
-    ensures { λ r. ⌜ r ≡ stopped progress verdict ⌝ }
+// The reading ends, with what the sheet comes to.
+fn stop(verdict: Verdict) -> Judged
+    ensures { λ r. ⌜ r ≡ stop verdict ⌝ }
 {
-    let plan = progress.plan;
-    Progress {
-        plan,
-        going: false,
+    Judged {
+        stops: true,
         verdict,
     }
 }
@@ -95,14 +99,14 @@ fn verdict_of(check: Check, at: usize) -> Verdict
 }
 
 // An admitted sheet gives its first state, a sheet turned down the empty state.
-fn reading_of(progress: Progress) -> Reading
-    ensures { λ r. ⌜ r ≡ readingOf (progress .verdict) (progress .plan) ⌝ }
+fn reading_of(plan: Plan, judged: Judged) -> Reading
+    ensures { λ r. ⌜ r ≡ readingOf (judged .verdict) plan ⌝ }
 {
-    let verdict = progress.verdict;
+    let verdict = judged.verdict;
     match verdict {
         Verdict::Admitted => Reading {
             verdict,
-            state: first_state(progress.plan),
+            state: first_state(plan),
         },
         Verdict::Faulty(_, _) => Reading {
             verdict,

@@ -1,16 +1,15 @@
 -- What the functions below `read_sheet` answer, over the definitions of `plan` and `scheduler`.
-use Prim.Native.Nat.{ℕ, _+_, _≤_, _<_}
+use Prim.Native.Nat.{ℕ, _+_}
 use mathlib.Core.Bool.{Bool, true, false, not, _&&_, _||_}
 use mathlib.Core.List.{[], _∷_}
 use mathlib.Core.Option.{Option, none, some}
-use mathlib.Core.Path.{_≡_}
 use lib.Dec.{eqb, ltb}
-use Rattle.plan.specs.Plans.{eventCount, ruleCount, emptyPlan}
+use Rattle.plan.specs.Plans.{eventCount, ruleCount}
 use Rattle.plan.specs.Rules.{badStep, badAttributes, named, enforceable}
 use Rattle.plan.specs.Faults.{firstFault}
-use Rattle.plan.specs.Records.{newEvents, newRules, isRule, ruleOf, declare, recordFault}
+use Rattle.plan.specs.Records.{newEvents, newRules, isRule, ruleOf, recordFault}
 use Rattle.scheduler.specs.State.{firstState, emptyState}
-use Rattle.sheet.specs.Types.{Rule, Plan, Record, SheetFault, BadStep, BadAttributes, BadNames, Unenforceable, Extra, Verdict, Admitted, Faulty, Reading, Check, Fine, Bad, Progress}
+use Rattle.sheet.specs.Types.{Event, Rule, RuleLine, Plan, Record, SheetFault, BadStep, BadAttributes, BadNames, Unenforceable, Extra, Verdict, Admitted, Faulty, Reading, Check, Fine, Bad, Judged}
 
 -- row 3; rows 6 and 7 of a rule; the rows from 4 on
 abbrev pub isFull : Plan → ℕ → Bool
@@ -38,30 +37,28 @@ abbrev pub verdictOf : Check → ℕ → Verdict
 verdictOf Fine at = Admitted
 verdictOf (Bad f) at = Faulty f at
 
--- the plan has a place for what a record of kind k declares
-pub record Room (p : Plan) (k : ℕ) : Type 0 where
-  pub one : k ≡ 1 → eventCount p < 16
-  pub four : k ≡ 6 → eventCount p + 4 ≤ 16
-  pub rule : (k ≡ 1 → ⊥) → (k ≡ 6 → ⊥) → ruleCount p < 16
+-- what a record of kind 1 declares, and what one of kind 2, 3 or 4 does
+abbrev pub eventOf : Record → Event
+eventOf r = record { step = r .x; attributes = r .y }
+
+abbrev pub lineOf : Record → RuleLine
+lineOf r = record { rule = ruleOf r }
 
 -- bytes after kind 5
 abbrev pub endVerdict : ℕ → ℕ → Verdict
 endVerdict len at = elim (ltb (at + 1) len) [ true ↦ Faulty Extra (at + 1) | false ↦ Admitted ]
 
-abbrev pub stopped : Progress → Verdict → Progress
-stopped p v = record { plan = p .plan; going = false; verdict = v }
+abbrev pub stop : Verdict → Judged
+stop v = record { stops = true; verdict = v }
 
-abbrev pub started : Progress
-started = record { plan = emptyPlan; going = true; verdict = Admitted }
+abbrev pub goOn : Judged
+goOn = record { stops = false; verdict = Admitted }
 
--- the reading after the record at an offset of a sheet of some length
-unfoldable pub takeRecord : Progress → ℕ → ℕ → Record → Progress
-takeRecord p len at r = elim (recordFault (p .plan) len at r) [
-  | some f ↦ stopped p (Faulty f at)
-  | none ↦ elim (eqb (r .kind) 5) [
-    | true ↦ stopped p (endVerdict len at)
-    | false ↦ record { plan = declare (p .plan) r; going = true; verdict = Admitted }
-  ]
+-- the record at an offset of a sheet of some length: a fault and kind 5 end the reading
+unfoldable pub judge : Plan → ℕ → ℕ → Record → Judged
+judge p len at r = elim (recordFault p len at r) [
+  | some f ↦ stop (Faulty f at)
+  | none ↦ elim (eqb (r .kind) 5) [ true ↦ stop (endVerdict len at) | false ↦ goOn ]
 ]
 
 unfoldable pub readingOf : Verdict → Plan → Reading
