@@ -259,9 +259,10 @@ module _ (s : State) where
 
 -- a loop of turns: none is left to make, or one is made
 module _ (s : State) where
-  pub up-rest : (n : ℕ) → 0 < n → settleOnce s ≡ none → settleUpTo n s ≡ s
-  up-rest zero lt h = absurd (omega arith)
-  up-rest (suc n) lt h = upTo-none n s h
+  pub up-rest : (n : ℕ) → settleOnce s ≡ none → settleUpTo n s ≡ s
+  unfolding settleUpTo
+  up-rest zero h = refl
+  up-rest (suc n) h = upTo-none n s h
 
   pub up-next : (n : ℕ) → 0 < n → (t : State) → settleOnce s ≡ some t → settleUpTo n s ≡ settleUpTo (n - 1) t
   up-next zero lt t h = absurd (omega arith)

@@ -24,17 +24,18 @@ pub(crate) struct Turned {
 }
 
 impl State {
-    // Settling: turns until none is left. Each settles an event, and there are at most 16.
+    // Settling: turns until none is left. Each settles an event, and there are at most 16; where nothing is held there is
+    // none.
     pub(crate) fn settle(self) -> State
         ensures { λ r. ⌜ r ≡ settle self ⌝ }
     {
+        let mut view = self.view();
+        if lowest_of(view.held) == 16 {
+            return self;
+        }
         let mut next = self;
         let mut left: u8 = 16;
         while 0 < left {
-            let view = next.view();
-            if lowest_of(view.held) == 16 {
-                return next;
-            }
             let barred = next.find_barred(view);
             if barred < 16 {
                 next = next.settle_as(Fate::Refused, barred);
@@ -44,6 +45,10 @@ impl State {
                     return next;
                 }
                 next = next.do_order(found);
+            }
+            view = next.view();
+            if lowest_of(view.held) == 16 {
+                return next;
             }
             left -= 1;
         }

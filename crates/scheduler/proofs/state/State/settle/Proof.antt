@@ -1,23 +1,24 @@
--- `State::settle` meets its contract. The loop: the turns that are left settle the whole.
+-- `State::settle` meets its contract. The loop: the turns that are left settle the whole, and the view is the state's.
 use Prim.Native.Nat.{_-_}
 use native.Mathlib.Omega.{arith}
 use borrow.Author.Tests.{not-true, not-false}
 use mathlib.Core.Logic.{⊎-elim}
+use mathlib.Core.Option.{Option, some}
 use mathlib.Core.Path.{_≡_, refl, sym, _∙_, ap}
-use Rattle.scheduler.specs.Calls.{settleUpTo, settle}
+use Rattle.members.specs.Sets.{Shows}
+use Rattle.scheduler.specs.Prelude.{State}
+use Rattle.scheduler.specs.State.{fateOf}
+use Rattle.scheduler.specs.Calls.{settleOnce, settleUpTo, settle}
 use Rattle.scheduler.proofs.SettleLoops.{none-turned, turn-refuses, turn-does, turn-rests, up-rest, up-next, up-end}
 use Rattle.scheduler.proofs.state.State.settle.Statement.{statement}
 use Rattle.scheduler.proofs.state.State.settle.Tie as tie
 
 abbrev Inv-loop : tie.InvT-loop
-Inv-loop next₀ left₀ next left = settle next₀ ≡ settleUpTo left next
+Inv-loop view₀ next₀ left₀ view next left =
+    (settle next₀ ≡ settleUpTo left next) × Shows (next .plan) (fateOf next) view
 
 abbrev μ-loop : tie.MeasureT-loop
-μ-loop next₀ left₀ next left = left
-
-loop-holds : tie.Need-loop-holds Inv-loop μ-loop
-unfolding settle
-loop-holds c = refl
+μ-loop view₀ next₀ left₀ view next left = left
 
 view-requires : tie.Need-view-requires Inv-loop μ-loop
 view-requires c κs = tt
@@ -26,28 +27,53 @@ lowest-of-requires : tie.Need-lowest-of-requires Inv-loop μ-loop
 lowest-of-requires c κs = tt
 
 returns : tie.Need-returns Inv-loop μ-loop
+unfolding settle
 returns c =
-    let at = c .before .before .before .before .loop in
-    let rests = none-turned (at .next) (c .before .before .view .result) (c .before .before .view .ensures) (c .before .lowest-of .result) (c .before .lowest-of .ensures) (c .if1 .taken) in
-    sym (at .inv ∙ up-rest (at .next) (at .left) (c .before .before .before .loop-test .taken) rests)
+    let s = c .before .before .before .args .self in
+    sym (up-rest s 16 (none-turned s (c .before .before .view .result) (c .before .before .view .ensures) (c .before .lowest-of .result) (c .before .lowest-of .ensures) (c .if1 .taken)))
+
+loop-holds : tie.Need-loop-holds Inv-loop μ-loop
+unfolding settle
+loop-holds c = (refl, c .before .before .view .ensures)
 
 find-barred-requires : tie.Need-find-barred-requires Inv-loop μ-loop
-find-barred-requires c κs = c .before .before .view .ensures
+find-barred-requires c κs = c .before .loop .inv .1
 
 settle-as-requires : tie.Need-settle-as-requires Inv-loop μ-loop
 settle-as-requires c κs = tt
 
 find-held-requires : tie.Need-find-held-requires Inv-loop μ-loop
-find-held-requires c κs = c .before .before .before .before .view .ensures
+find-held-requires c κs = c .before .before .before .loop .inv .1
 
 returns-2 : tie.Need-returns-2 Inv-loop μ-loop
 returns-2 c =
-    let at = c .before .before .before .before .before .before .before .before .before .loop in
-    let rests = turn-rests (at .next) (c .before .before .before .before .find-barred .result) (c .before .before .before .before .find-barred .ensures) (λ lt. omega (arith, c .before .before .before .if2 .left)) (c .before .before .find-held .result) (c .before .before .find-held .ensures) (not-true _ (c .if3 .taken)) in
-    sym (at .inv ∙ up-rest (at .next) (at .left) (c .before .before .before .before .before .before .before .before .loop-test .taken) rests)
+    let at = c .before .before .before .before .before .before .loop in
+    let s = at .next in
+    let e = c .before .before .before .before .find-barred .result in
+    let same = c .before .before .before .before .find-barred .ensures in
+    sym (at .inv .0 ∙ up-rest s (at .left) (turn-rests s e same (λ lt. omega (arith, c .before .before .before .if2 .left)) (c .before .before .find-held .result) (c .before .before .find-held .ensures) (not-true _ (c .if3 .taken))))
 
 do-order-requires : tie.Need-do-order-requires Inv-loop μ-loop
 do-order-requires c κs = tt
+
+view-requires-2 : tie.Need-view-requires-2 Inv-loop μ-loop
+view-requires-2 c κs = tt
+
+lowest-of-requires-2 : tie.Need-lowest-of-requires-2 Inv-loop μ-loop
+lowest-of-requires-2 c κs = tt
+
+returns-3 : tie.Need-returns-3 Inv-loop μ-loop
+returns-3 c =
+    let at = c .before .before .before .before .before .before .loop in
+    let s = at .next in
+    let e = c .before .before .before .before .find-barred .result in
+    let same = c .before .before .before .before .find-barred .ensures in
+    let turned : settleOnce s ≡ some (c .before .before .before .if2 .next) = ⊎-elim
+    (λ w. turn-refuses s e same (w .0 .taken) ∙ ap {B = Option State} some (sym (w .2 ∙ w .1 .ensures)))
+    (λ w. turn-does s e same (λ lt. omega (arith, w .0 .left)) (w .1 .result) (w .1 .ensures) (not-false _ (w .3 .left)) ∙ ap {B = Option State} some (sym (w .5 ∙ w .4 .ensures)))
+    (c .before .before .before .if2 .came) in
+    let rests = none-turned (c .before .before .before .if2 .next) (c .before .before .view2 .result) (c .before .before .view2 .ensures) (c .before .lowest-of2 .result) (c .before .lowest-of2 .ensures) (c .if4 .taken) in
+    sym (at .inv .0 ∙ up-next s (at .left) (c .before .before .before .before .before .loop-test .taken) _ turned ∙ up-rest (c .before .before .before .if2 .next) (at .left - 1) rests)
 
 sub-left : tie.Need-sub-left Inv-loop μ-loop
 sub-left c = omega arith
@@ -58,18 +84,17 @@ loop-less c = omega arith
 loop-again : tie.Need-loop-again Inv-loop μ-loop
 loop-again c =
     let at = c .before .before .before .before .before .before .loop in
-    let more = c .before .before .before .before .before .loop-test .taken in
     let s = at .next in
-    let e = c .before .find-barred .result in
-    let same = c .before .find-barred .ensures in
-    at .inv
-    ∙ ⊎-elim
-    (λ w. up-next s (at .left) more _ (turn-refuses s e same (w .0 .taken)) ∙ ap (settleUpTo (at .left - 1)) (sym (w .2 ∙ w .1 .ensures)))
-    (λ w. up-next s (at .left) more _ (turn-does s e same (λ lt. omega (arith, w .0 .left)) (w .1 .result) (w .1 .ensures) (not-false _ (w .3 .left))) ∙ ap (settleUpTo (at .left - 1)) (sym (w .5 ∙ w .4 .ensures)))
-    (c .if2 .came)
+    let e = c .before .before .before .before .find-barred .result in
+    let same = c .before .before .before .before .find-barred .ensures in
+    let turned : settleOnce s ≡ some (c .before .before .before .if2 .next) = ⊎-elim
+    (λ w. turn-refuses s e same (w .0 .taken) ∙ ap {B = Option State} some (sym (w .2 ∙ w .1 .ensures)))
+    (λ w. turn-does s e same (λ lt. omega (arith, w .0 .left)) (w .1 .result) (w .1 .ensures) (not-false _ (w .3 .left)) ∙ ap {B = Option State} some (sym (w .5 ∙ w .4 .ensures)))
+    (c .before .before .before .if2 .came) in
+    (at .inv .0 ∙ up-next s (at .left) (c .before .before .before .before .before .loop-test .taken) _ turned, c .before .before .view2 .ensures)
 
-returns-3 : tie.Need-returns-3 Inv-loop μ-loop
-returns-3 c = sym (c .before .loop .inv ∙ up-end (c .before .loop .left) _ (c .loop-test .left))
+returns-4 : tie.Need-returns-4 Inv-loop μ-loop
+returns-4 c = sym (c .before .loop .inv .0 ∙ up-end (c .before .loop .left) _ (c .loop-test .left))
 
 pub settle-spec : {M : Type 1} → statement M
 settle-spec =
@@ -77,16 +102,19 @@ settle-spec =
     (tie.spec
     Inv-loop
     μ-loop
-    loop-holds
     view-requires
     lowest-of-requires
     returns
+    loop-holds
     find-barred-requires
     settle-as-requires
     find-held-requires
     returns-2
     do-order-requires
+    view-requires-2
+    lowest-of-requires-2
+    returns-3
     sub-left
     loop-less
     loop-again
-    returns-3)
+    returns-4)
