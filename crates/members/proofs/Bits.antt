@@ -2,7 +2,7 @@
 use Prim.Native.Nat.{ℕ, zero, suc, _*_, _/_, _%_, _^_, _≤_, _<_}
 use native.Mathlib.Nat.{mod-lt, zero-div}
 use native.Mathlib.Omega.{arith}
-use borrow.Author.Tests.{le-ltb, ltb-true, ltb-false, ne-eqb}
+use borrow.Author.Tests.{lt-ltb, le-ltb, ltb-true, ltb-false, ne-eqb}
 use mathlib.Core.Bool.{Bool, true, false, not, _&&_, _||_, and-true, and-false, or-comm, and-comm as bool-and-comm, and-or-distrib-left}
 use mathlib.Core.Logic.{inl, inr}
 use mathlib.Core.Path.{_≡_, refl, _∙_, ap}
@@ -143,3 +143,15 @@ module _ (m e : ℕ) (is : Bool) (x : ℕ) where
 
   pub in-kept : (is && ltb e 16) ≡ false → inSet m x ≡ ((eqb x e && (ltb e 16 && is)) || inSet m x)
   in-kept h = rw (bool-and-comm (ltb e 16) is, h, and-false)
+
+-- a set made by adding one event to none
+pub in-one : (e one : ℕ)
+    → e < 16
+    → ((x : ℕ) → inSet one x ≡ ((eqb x e && (ltb e 16 && true)) || inSet 0 x))
+    → (x : ℕ)
+    → inSet one x ≡ eqb x e
+in-one e one lt is x = is x ∙ go (eqb x e)
+  where
+    go : (b : Bool) → ((b && (ltb e 16 && true)) || inSet 0 x) ≡ b
+    go true = rw (lt-ltb e 16 lt)
+    go false = in-zero x

@@ -13,16 +13,9 @@ use Rattle.orders.specs.Runs.{doing}
 use Rattle.orders.proofs.Doing.{doing-same, doing-other}
 use Rattle.members.specs.Prelude.{Fate, Plan, View}
 use Rattle.members.specs.Sets.{inSet, Shows}
-use Rattle.members.proofs.Bits.{in-zero}
+use Rattle.members.proofs.Bits.{in-one}
 
 module _ (p : Plan) (f : Fates) (c : ℕ) (lt : c < 16) (one : ℕ) (is-one : (x : ℕ) → inSet one x ≡ ((eqb x c && (ltb c 16 && true)) || inSet 0 x)) where
-  in-one : (x : ℕ) → inSet one x ≡ eqb x c
-  in-one x = is-one x ∙ go (eqb x c)
-    where
-      go : (b : Bool) → ((b && (ltb c 16 && true)) || inSet 0 x) ≡ b
-      go true = rw (lt-ltb c 16 lt)
-      go false = in-zero x
-
   -- a set of events with a fate that is not done loses the event
   leaves : (k : ℕ → Bool) (t : ℕ → Fate → Bool)
       → ((x : ℕ) → t x Done ≡ false)
@@ -32,8 +25,8 @@ module _ (p : Plan) (f : Fates) (c : ℕ) (lt : c < 16) (one : ℕ) (is-one : (x
       → (x : ℕ)
       → inSet n x ≡ (k x && t x (doing f c x))
   leaves k t unset m n before after x = elim (ℕ-discrete x c) [
-    | yes q ↦ after x ∙ ap (λ (b : Bool). inSet m x && not b) (in-one x ∙ eq-eqb x c q) ∙ and-false (inSet m x) ∙ sym (ap (λ (b : Bool). k x && b) (ap (t x) (doing-same f c x q) ∙ unset x) ∙ and-false (k x))
-    | no ne ↦ after x ∙ ap (λ (b : Bool). inSet m x && not b) (in-one x ∙ ne-eqb x c ne) ∙ and-true (inSet m x) ∙ before x ∙ sym (ap (λ (z : Fate). k x && t x z) (doing-other f c x ne))
+    | yes q ↦ after x ∙ ap (λ (b : Bool). inSet m x && not b) (in-one c one lt is-one x ∙ eq-eqb x c q) ∙ and-false (inSet m x) ∙ sym (ap (λ (b : Bool). k x && b) (ap (t x) (doing-same f c x q) ∙ unset x) ∙ and-false (k x))
+    | no ne ↦ after x ∙ ap (λ (b : Bool). inSet m x && not b) (in-one c one lt is-one x ∙ ne-eqb x c ne) ∙ and-true (inSet m x) ∙ before x ∙ sym (ap (λ (z : Fate). k x && t x z) (doing-other f c x ne))
   ]
 
   joins : (m n : ℕ)

@@ -27,6 +27,7 @@ pub struct View {
     pub waits: u32,
 }
 
+// The view of a plan's events and their fates; past the count nothing is held or at hand.
 pub fn view_of(events: [Event; 16], count: u8, standings: [Standing; 16]) -> View
     ensures { λ r. ⌜ ((p : Plan) → p .events ≡ events → eventCount p ≡ count → Shows p (fatesOf standings) r) ⌝ }
 {

@@ -133,7 +133,10 @@ module _ (p : Plan) (l : ℕ → Bool) (f : Fates) where
     | inl t ↦ w x t
     | inr t ↦
         let c = and-left (calls p l f m i) (eqb x (target (ruleAt p i))) t in
-        subst (λ (v : ℕ). n v ≡ true) (sym (eqb-true x (target (ruleAt p i)) (and-right (calls p l f m i) (eqb x (target (ruleAt p i))) t))) (cl (ruleAt p i) (call-stands m i lt c) (wants-more n w (call-wants m i c)))
+        subst
+        (λ (v : ℕ). n v ≡ true)
+        (sym (eqb-true x (target (ruleAt p i)) (and-right (calls p l f m i) (eqb x (target (ruleAt p i))) t)))
+        (cl (ruleAt p i) (call-stands m i lt c) (wants-more n w (call-wants m i c)))
   ]
 
   -- a pass
@@ -146,7 +149,10 @@ module _ (p : Plan) (l : ℕ → Bool) (f : Fates) where
   unfolding pass
   pass-hits zero m i lt h = absurd (omega arith)
   pass-hits (suc n) m i lt h = elim (ℕ-discrete i n) [
-    | yes q ↦ subst (λ (v : ℕ). adding p l f (pass n p l f m) n (target (ruleAt p v)) ≡ true) (sym q) (adding-hits (pass n p l f m) n (calls-more m (pass n p l f m) (pass-grows n m) n (subst (λ (v : ℕ). calls p l f m v ≡ true) q h)))
+    | yes q ↦
+        let here = calls-more m (pass n p l f m) (pass-grows n m) n (subst (λ (v : ℕ). calls p l f m v ≡ true) q h) in
+        let last = adding-hits (pass n p l f m) n here in
+        subst (λ (v : ℕ). adding p l f (pass n p l f m) n (target (ruleAt p v)) ≡ true) (sym q) last
     | no ne ↦ adding-grows (pass n p l f m) n (target (ruleAt p i)) (pass-hits n m i (omega arith) h)
   ]
 
@@ -175,7 +181,10 @@ module _ (p : Plan) (l : ℕ → Bool) (f : Fates) where
       let i = st .place in
       let w′ : Wants p f m (ruleAt p i) = subst (Wants p f m) (sym (st .is)) w in
       let c = wants-call m i (st .unbroken) w′ in
-      subst (λ (v : Rule). m (target v) ≡ true) (st .is) (elim (either (m (target (ruleAt p i)))) [ inl t ↦ t | inr t ↦ absurd (clash (and-both (calls p l f m i) (not (m (target (ruleAt p i)))) c (ap not t)) (any-false (ruleCount p) (lacking m) h i (st .within))) ])
+      subst
+      (λ (v : Rule). m (target v) ≡ true)
+      (st .is)
+      (elim (either (m (target (ruleAt p i)))) [ inl t ↦ t | inr t ↦ absurd (clash (and-both (calls p l f m i) (not (m (target (ruleAt p i)))) c (ap not t)) (any-false (ruleCount p) (lacking m) h i (st .within))) ])
 
   -- how many rules have their target in the set
   called-for : Events → ℕ
@@ -187,7 +196,15 @@ module _ (p : Plan) (l : ℕ → Bool) (f : Fates) where
       let x = any-found (ruleCount p) (lacking m) h in
       let i = x .0 in
       let lack = x .2 in
-      count-strict (ruleCount p) (λ j. m (target (ruleAt p j))) (λ j. pass (ruleCount p) p l f m (target (ruleAt p j))) (λ j lt t. pass-grows (ruleCount p) m (target (ruleAt p j)) t) i (x .1) (not-true (m (target (ruleAt p i))) (and-right (calls p l f m i) (not (m (target (ruleAt p i)))) lack)) (pass-hits (ruleCount p) m i (x .1) (and-left (calls p l f m i) (not (m (target (ruleAt p i)))) lack))
+      count-strict
+      (ruleCount p)
+      (λ j. m (target (ruleAt p j)))
+      (λ j. pass (ruleCount p) p l f m (target (ruleAt p j)))
+      (λ j lt t. pass-grows (ruleCount p) m (target (ruleAt p j)) t)
+      i
+      (x .1)
+      (not-true (m (target (ruleAt p i))) (and-right (calls p l f m i) (not (m (target (ruleAt p i)))) lack))
+      (pass-hits (ruleCount p) m i (x .1) (and-left (calls p l f m i) (not (m (target (ruleAt p i)))) lack))
 
   pass-closed : (m : Events) → Closed p l f m → Closed p l f (pass (ruleCount p) p l f m)
   pass-closed m cl r st w =

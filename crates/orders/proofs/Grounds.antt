@@ -1,20 +1,40 @@
 -- The tests of rules, and the grounds on which they pass.
-use Prim.Native.Nat.{ℕ}
+use Prim.Native.Nat.{ℕ, _<_}
 use borrow.Author.Tests.{not-true, eq-eqb, eqb-true}
 use mathlib.Core.Bool.{Bool, true, false, not, _&&_, _||_}
 use mathlib.Core.Logic.{inl, inr}
-use mathlib.Core.Path.{_≡_, refl}
+use mathlib.Core.Path.{_≡_, refl, subst}
 use lib.Dec.{eqb}
 use Rattle.orders.specs.Prelude.{Rule, Order, Need, Conditional, Plan}
 use Rattle.plan.specs.Fates.{Fates, isDone, isGone, isSettled}
-use Rattle.plan.specs.Plans.{delayable}
+use Rattle.plan.specs.Base.{anyBelow}
+use Rattle.plan.specs.Plans.{ruleCount, ruleAt, delayable}
+use Rattle.orders.specs.Closed.{Stands}
 use Rattle.plan.specs.Rules.{bars, makesWait, owes}
 use Rattle.orders.specs.Runs.{Bars, late, lost, second, other, Waits, waits, Owed, needed, called}
-use Rattle.plan.proofs.Tests.{and-left, and-right, or-either, or-right-true, clash}
+use Rattle.plan.proofs.Tests.{any-false, any-none, and-not, and-left, and-right, or-either, or-right-true, clash}
 
 pub refuted : (b : Bool) → (b ≡ true → ⊥) → b ≡ false
 refuted true h = absurd (h refl)
 refuted false h = refl
+
+-- a test over the rules that stand fails just where it fails of each
+module _ (p : Plan) (l : ℕ → Bool) (t : Rule → Bool) where
+  pub each-fails : anyBelow (ruleCount p) (λ i. l i && t (ruleAt p i)) ≡ false
+      → (r : Rule)
+      → Stands p l r
+      → t r ≡ false
+  each-fails h r st =
+      let i = st .place in
+      let here = any-false (ruleCount p) (λ j. l j && t (ruleAt p j)) h i (st .within) in
+      subst (λ (z : Rule). t z ≡ false) (st .is) (and-not (l i) (t (ruleAt p i)) here (st .unbroken))
+
+  pub all-fail : ((r : Rule) → Stands p l r → t r ≡ false) → anyBelow (ruleCount p) (λ i. l i && t (ruleAt p i)) ≡ false
+  all-fail h = any-none (ruleCount p) (λ i. l i && t (ruleAt p i)) (λ i lt. go i lt (l i) refl)
+    where
+      go : (i : ℕ) → i < ruleCount p → (b : Bool) → l i ≡ b → (l i && t (ruleAt p i)) ≡ false
+      go i lt true e = rw e (h (ruleAt p i) (record { place = i; within = lt; unbroken = e; is = refl }))
+      go i lt false e = rw e
 
 pub bars-grounds : (p : Plan) (f : Fates) (x : ℕ) (r : Rule) → bars p f r x ≡ true → Bars f x r
 unfolding bars

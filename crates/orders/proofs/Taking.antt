@@ -22,7 +22,7 @@ use Rattle.orders.specs.Sequences.{Ahead}
 use Rattle.orders.specs.Stepwise.{follows, blocked, less, nothing, next, stepwise}
 use Rattle.plan.proofs.Tests.{and-left, and-right, or-left, or-right, or-both, or-right-true, or-either, and-not, clash, either, any-false, any-none, some-none}
 use Rattle.orders.proofs.Lowest.{lowest-some, lowest-any}
-use Rattle.orders.proofs.Grounds.{refuted, bars-grounds, grounds-bar}
+use Rattle.orders.proofs.Grounds.{refuted, each-fails, all-fail, bars-grounds, grounds-bar}
 use Rattle.orders.proofs.Doing.{doing-same, ready-unsettled, ready-stays, unsettled-other}
 use Rattle.orders.proofs.Running.{among-head, among-tail, among-cases, among-none, run-once, no-turn}
 use Rattle.orders.proofs.Closure.{wants-unsettled, wants-more}
@@ -88,18 +88,13 @@ module _ (p : Plan) (l : ℕ → Bool) where
       → Stands p l r
       → (bars p f r x || follows p m r x) ≡ false
   unfolding blocked
-  rule-free f m x h r st =
-      subst (λ (z : Rule). (bars p f z x || follows p m z x) ≡ false) (st .is) (and-not (l (st .place)) (bars p f (ruleAt p (st .place)) x || follows p m (ruleAt p (st .place)) x) (any-false (ruleCount p) _ h (st .place) (st .within)) (st .unbroken))
+  rule-free f m x = each-fails p l (λ r. bars p f r x || follows p m r x)
 
   free-unblocked : (f : Fates) (m : Events) (x : ℕ)
       → ((r : Rule) → Stands p l r → (bars p f r x || follows p m r x) ≡ false)
       → blocked p l f m x ≡ false
   unfolding blocked
-  free-unblocked f m x h = any-none (ruleCount p) _ (λ i lt. go i lt (l i) refl)
-    where
-      go : (i : ℕ) → i < ruleCount p → (b : Bool) → l i ≡ b → (l i && (bars p f (ruleAt p i) x || follows p m (ruleAt p i) x)) ≡ false
-      go i lt true e = rw e (h (ruleAt p i) (record { place = i; within = lt; unbroken = e; is = refl }))
-      go i lt false e = rw e
+  free-unblocked f m x = all-fail p l (λ r. bars p f r x || follows p m r x)
 
   follows-other : (m : Events) (a x : ℕ) → m a ≡ true → a ≢ x → follows p m (Order a x) x ≡ true
   unfolding follows
@@ -213,7 +208,11 @@ module _ (p : Plan) (l : ℕ → Bool) where
     | inr t ↦ go t (next p l f m) refl (λ x u c v. sound k (doing f x) (less m x) u c v)
   ]
     where
-      go : nothing m ≡ false → (n : Option ℕ) → next p l f m ≡ n → ((x : ℕ) (u : List ℕ) → stepwise p l k (doing f x) (less m x) ≡ some u → Closed p l (doing f x) (less m x) → Ready (doing f x) (less m x) → Sound k (doing f x) (less m x) u) → Sound (suc k) f m o
+      go : nothing m ≡ false
+          → (n : Option ℕ)
+          → next p l f m ≡ n
+          → ((x : ℕ) (u : List ℕ) → stepwise p l k (doing f x) (less m x) ≡ some u → Closed p l (doing f x) (less m x) → Ready (doing f x) (less m x) → Sound k (doing f x) (less m x) u)
+          → Sound (suc k) f m o
       go t none q rec = absurd (some-none (sym h ∙ step-stuck k f m t q))
       go t (some x) q rec =
           let u = map-cons x (stepwise p l k (doing f x) (less m x)) o (sym (step-takes k f m x t q) ∙ h) in
@@ -250,7 +249,12 @@ module _ (p : Plan) (l : ℕ → Bool) where
       → ((x : ℕ) → m x ≡ true → among x (y ∷ o) ≡ true)
       → blocked p l f m y ≡ false
   head-free f m y o run whole =
-      free-unblocked f m y (λ r st. or-both (bars p f r y) (follows p m r y) (refuted (bars p f r y) (λ t. run .0 .unbarred r st (bars-grounds p f y r t))) (refuted (follows p m r y) (head-follows f m y o run whole r st)))
+      free-unblocked f m y (λ r st.
+      or-both
+      (bars p f r y)
+      (follows p m r y)
+      (refuted (bars p f r y) (λ t. run .0 .unbarred r st (bars-grounds p f y r t)))
+      (refuted (follows p m r y) (head-follows f m y o run whole r st)))
 
   -- complete: a run of the whole set, and what is taken in its place
   pub record Made (f : Fates) (m : Events) (o : List ℕ) : Type 0 where

@@ -23,11 +23,11 @@ use Rattle.scheduler.specs.Rules.{stands, forbidden, owing}
 use Rattle.scheduler.specs.Orders.{mayDo, doOne, Runs, Viable, First, chosen}
 use Rattle.scheduler.specs.Internal.Hopeful.{Hopeful}
 use Rattle.plan.proofs.Tests.{and-left, and-right, and-both, and-not, or-left, or-right, or-both, clash, either, any-false, any-none}
-use Rattle.orders.proofs.Grounds.{refuted, bars-grounds, grounds-bar, wait-grounds, grounds-wait, owes-grounds, grounds-owe}
+use Rattle.orders.proofs.Grounds.{refuted, each-fails, all-fail, bars-grounds, grounds-bar, wait-grounds, grounds-wait, owes-grounds, grounds-owe}
 use Rattle.orders.proofs.Doing.{doing-same, doing-other}
 use Rattle.orders.proofs.Running.{inside, among-head, among-tail, among-cases, among-none, run-ready, run-closed, count-inside}
 use Rattle.orders.proofs.Cutting.{keep, run-keep, keep-length, keep-member, keep-all}
-use Rattle.orders.proofs.Taking.{Ready, sound, complete}
+use Rattle.orders.proofs.Taking.{Ready, sound, Made, complete}
 use Rattle.scheduler.proofs.Laws.{sized-one, fate-settle-same, fate-settle-other}
 use Rattle.scheduler.proofs.Searching.{hand-bound, ready-bound, runs-differ, ahead-both, chosen-none, chosen-first}
 
@@ -40,29 +40,12 @@ pub among-mem : (x : ℕ) (o : List ℕ) → among x o ≡ true → List·Memᴰ
 among-mem x [] h = absurd (among-none x h)
 among-mem x (c ∷ o) h = elim (among-cases x c o h) [ inl q ↦ List·Memᴰ·head q | inr t ↦ List·Memᴰ·tail (among-mem x o t) ]
 
--- a test over the rules that stand fails just where it fails of each
-module _ (s : State) (t : Rule → Bool) where
-  each-fails : anyBelow (ruleCount (s .plan)) (λ i. stands s i && t (ruleAt (s .plan) i)) ≡ false
-      → (r : Rule)
-      → Stands (s .plan) (stands s) r
-      → t r ≡ false
-  each-fails h r st =
-      subst (λ (z : Rule). t z ≡ false) (st .is) (and-not (stands s (st .place)) (t (ruleAt (s .plan) (st .place))) (any-false (ruleCount (s .plan)) _ h (st .place) (st .within)) (st .unbroken))
-
-  all-fail : ((r : Rule) → Stands (s .plan) (stands s) r → t r ≡ false)
-      → anyBelow (ruleCount (s .plan)) (λ i. stands s i && t (ruleAt (s .plan) i)) ≡ false
-  all-fail h = any-none (ruleCount (s .plan)) _ (λ i lt. go i lt (stands s i) refl)
-    where
-      go : (i : ℕ) → i < ruleCount (s .plan) → (b : Bool) → stands s i ≡ b → (stands s i && t (ruleAt (s .plan) i)) ≡ false
-      go i lt true e = rw e (h (ruleAt (s .plan) i) (record { place = i; within = lt; unbroken = e; is = refl }))
-      go i lt false e = rw e
-
 -- an event may be done, in the words of grounds
 module _ (s : State) (c : ℕ) where
   may-grounds : c < eventCount (s .plan) → mayDo s c ≡ true → May (s .plan) (stands s) (fateOf s) c
   unfolding mayDo forbidden forbids
   may-grounds lt h =
-      let free = each-fails s (λ r. forbids (s .plan) (fateOf s) r c) (not-true (forbidden s c) (and-right (ready (s .plan) (fateOf s) c) (not (forbidden s c)) h)) in
+      let free = each-fails (s .plan) (stands s) (λ r. forbids (s .plan) (fateOf s) r c) (not-true (forbidden s c) (and-right (ready (s .plan) (fateOf s) c) (not (forbidden s c)) h)) in
       record {
         declared = lt;
         at-hand = and-left (ready (s .plan) (fateOf s) c) (not (forbidden s c)) h;
@@ -73,7 +56,15 @@ module _ (s : State) (c : ℕ) where
   grounds-may : May (s .plan) (stands s) (fateOf s) c → mayDo s c ≡ true
   unfolding mayDo forbidden forbids
   grounds-may m =
-      and-both (ready (s .plan) (fateOf s) c) (not (forbidden s c)) (m .at-hand) (ap not (all-fail s (λ r. forbids (s .plan) (fateOf s) r c) (λ r st. or-both (bars (s .plan) (fateOf s) r c) (makesWait (s .plan) (fateOf s) r c) (refuted _ (λ t. m .unbarred r st (bars-grounds (s .plan) (fateOf s) c r t))) (refuted _ (λ t. m .unwaiting r st (wait-grounds (s .plan) (fateOf s) c r t))))))
+      let p = s .plan in
+      let f = fateOf s in
+      let free = all-fail p (stands s) (λ r. forbids p f r c) (λ r st.
+      or-both
+      (bars p f r c)
+      (makesWait p f r c)
+      (refuted _ (λ t. m .unbarred r st (bars-grounds p f c r t)))
+      (refuted _ (λ t. m .unwaiting r st (wait-grounds p f c r t)))) in
+      and-both (ready p f c) (not (forbidden s c)) (m .at-hand) (ap not free)
 
 -- the fates after an event is done
 pub fates-one : (s : State) (c : ℕ) → Sized s → c < 16 → fateOf (doOne s c) ≡ doing (fateOf s) c
@@ -95,14 +86,14 @@ module _ (s : State) (c : ℕ) (o : List ℕ) (z : Sized s) (lt : c < 16) where
 pub run-of : (s : State) → Sized s → (o : List ℕ) → Runs s o → Run (s .plan) (stands s) (fateOf s) o
 unfolding owing
 run-of s z [] h =
-    λ r st w. clash (grounds-owe (s .plan) (fateOf s) r w) (each-fails s (λ u. owes (s .plan) (fateOf s) u) h r st)
+    λ r st w. clash (grounds-owe (s .plan) (fateOf s) r w) (each-fails (s .plan) (stands s) (λ u. owes (s .plan) (fateOf s) u) h r st)
 run-of s z (c ∷ o) h =
     (may-grounds s c (h .0) (h .1), run-after s c o z (ready-bound s c (h .1)) (run-of (doOne s c) (sized-one s c z) o (h .2)))
 
 pub of-run : (s : State) → Sized s → (o : List ℕ) → Run (s .plan) (stands s) (fateOf s) o → Runs s o
 unfolding owing
 of-run s z [] h =
-    all-fail s (λ u. owes (s .plan) (fateOf s) u) (λ r st. refuted _ (λ t. h r st (owes-grounds (s .plan) (fateOf s) r t)))
+    all-fail (s .plan) (stands s) (λ u. owes (s .plan) (fateOf s) u) (λ r st. refuted _ (λ t. h r st (owes-grounds (s .plan) (fateOf s) r t)))
 of-run s z (c ∷ o) h =
     let may = grounds-may s c (h .0) in
     (h .0 .declared, may, of-run (doOne s c) (sized-one s c z) o (after-run s c o z (ready-bound s c may) (h .1)))
@@ -199,7 +190,14 @@ module _ (s : State) (z : Sized s) (e : ℕ) (able : Events) (k : Hopeful s able
     taken-first : (o : List ℕ) → First s e o → stepwise (s .plan) (stands s) 6 (fateOf s) m ≡ some o
     taken-first o f =
         let v = f .viable in
-        let t = complete (s .plan) (stands s) 6 (fateOf s) m o (record { runs = run-of s z o (v .runs); within = shortest-within s z e m (least .fit .closed) (least .fit .contains) o v (first-shortest s e o f); whole = least-inside o v; low = λ x h. low-able x (least .fit .ables x h) }) (v .short) in
+        let within = shortest-within s z e m (least .fit .closed) (least .fit .contains) o v (first-shortest s e o f) in
+        let made : Made (s .plan) (stands s) (fateOf s) m o = record {
+          runs = run-of s z o (v .runs);
+          within = within;
+          whole = least-inside o v;
+          low = λ x h. low-able x (least .fit .ables x h);
+        } in
+        let t = complete (s .plan) (stands s) 6 (fateOf s) m o made (v .short) in
         let same : t .order ≡ o = elim (f .least (t .order) (taken-viable (t .order) (t .gives))) [
           | inl lt ↦ absurd (omega (arith, t .long))
           | inr w ↦ ahead-both (t .order) o (t .long) (t .ahead) (w .1)

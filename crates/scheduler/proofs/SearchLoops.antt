@@ -31,7 +31,7 @@ use Rattle.plan.proofs.Tests.{and-left, and-right, and-both, clash}
 use Rattle.orders.proofs.Grounds.{refuted}
 use Rattle.orders.proofs.Lowest.{lowest-some, lowest-none, lowest-alike}
 use Rattle.orders.proofs.Taking.{less-in, less-stays, none-nothing, some-left, step-ends, step-full, step-stuck, step-takes}
-use Rattle.members.proofs.Bits.{in-zero}
+use Rattle.members.proofs.Bits.{in-one}
 use Rattle.scheduler.proofs.LeastSets.{fates-one, no-fit-none, chosen-taken}
 use Rattle.scheduler.proofs.Searching.{chosen-short}
 
@@ -77,13 +77,6 @@ found-all o h =
 
 -- the lowest event of a set, as code hands it over
 module _ (t : ℕ → Bool) (x : ℕ) (same : x ≡ orSixteen (lowest 16 t)) where
-  pub lowest-sixteen : x ≡ 16 → lowest 16 t ≡ none
-  lowest-sixteen q = go (lowest 16 t) refl
-    where
-      go : (o : Option ℕ) → lowest 16 t ≡ o → lowest 16 t ≡ none
-      go none e = e
-      go (some y) e = absurd (omega (arith, lowest-some 16 t y e .below, same ∙ ap orSixteen e))
-
   pub lowest-below : x < 16 → lowest 16 t ≡ some x
   lowest-below lt = go (lowest 16 t) refl
     where
@@ -98,6 +91,9 @@ module _ (t : ℕ → Bool) (x : ℕ) (same : x ≡ orSixteen (lowest 16 t)) whe
       go none e = e
       go (some y) e = absurd (n (omega (arith, lowest-some 16 t y e .below, same ∙ ap orSixteen e)))
 
+  pub lowest-sixteen : x ≡ 16 → lowest 16 t ≡ none
+  lowest-sixteen q = lowest-past (λ lt. omega arith)
+
 -- a set without one event
 pub after-less : (left x : ℕ)
     → x < 16
@@ -106,11 +102,7 @@ pub after-less : (left x : ℕ)
     → ((y : ℕ) → inSet after y ≡ (inSet left y && not (inSet one y)))
     → inSet after ≡ less (inSet left) x
 after-less left x lt one after is-one is-after =
-    fun-ext (λ y. is-after y ∙ ap (λ (v : Bool). inSet left y && not v) (is-one y ∙ go y (eqb y x)))
-  where
-    go : (y : ℕ) (v : Bool) → ((v && (ltb x 16 && true)) || inSet 0 y) ≡ v
-    go y true = rw (lt-ltb x 16 lt)
-    go y false = in-zero y
+    fun-ext (λ y. is-after y ∙ ap (λ (v : Bool). inSet left y && not v) (in-one x one lt is-one y))
 
 -- a view after an event of an order is done
 pub shows-one : (s : State) (x : ℕ) (v : View)
@@ -125,6 +117,12 @@ shows-one s x v z lt w = subst (λ (f : Fates). Shows (s .plan) f v) (sym (fates
 module _ (s : State) (left at places : ℕ) where
   abbrev pub steps : Option (List ℕ)
   steps = stepwise (s .plan) (stands s) places (fateOf s) (inSet left)
+
+  -- a search that goes on with x, by what the search after it answers
+  pub record Onward (x : ℕ) (r : Found) : Type 0 where
+    pub miss : r .ok ≡ false → noOrder ≡ foundFrom at steps
+    pub hit : r .ok ≡ true
+        → _≡_ {A = Found} (record { ok = r .ok; events = set (r .events) at x; len = r .len }) (foundFrom at steps)
 
   -- nothing is left: the order ends here
   pub search-end : (x : ℕ)
@@ -186,7 +184,7 @@ module _ (s : State) (left at places : ℕ) where
           found-later : r ≡ foundFrom (at + 1) later
           found-later = found ∙ ap (foundFrom (at + 1)) later-same
 
-          pub search-miss : r .ok ≡ false → noOrder ≡ foundFrom at steps
+          search-miss : r .ok ≡ false → noOrder ≡ foundFrom at steps
           unfolding foundFrom
           search-miss f = ap (foundFrom at) (sym (steps-take ∙ ap (Option·map (λ (o : List ℕ). x ∷ o)) (found-none (at + 1) later r found-later f)))
 
@@ -197,8 +195,12 @@ module _ (s : State) (left at places : ℕ) where
               ∙ ap {B = Found} (λ (n : ℕ). record { ok = true; events = set (placed (at + 1) o) at x; len = n }) (omega arith)
               ∙ ap (foundFrom at) (sym (steps-take ∙ ap (Option·map (λ (u : List ℕ). x ∷ u)) q))
 
-          pub search-hit : r .ok ≡ true → _≡_ {A = Found} (record { ok = r .ok; events = set (r .events) at x; len = r .len }) (foundFrom at steps)
+          search-hit : r .ok ≡ true → _≡_ {A = Found} (record { ok = r .ok; events = set (r .events) at x; len = r .len }) (foundFrom at steps)
           search-hit t = let f = found-some (at + 1) later r found-later t in hit-with (f .0) (f .1)
+
+          -- the answer, by what that search answers
+          pub search-on : Onward x r
+          search-on = record { miss = search-miss; hit = search-hit }
 
 -- the search among the members
 module _ (s : State) (z : Sized s) (e able : ℕ) (k : Hopeful s (inSet able)) (m : Members) (closes : Closes (s .plan) (stands s) (fateOf s) (inSet able) e m) where

@@ -34,7 +34,10 @@ module _ (s : State) (z : Sized s) (e : ℕ) where
   -- the events of one lie in what it shares with the other, for that is closed and has e
   shortest-inside : (o q : List ℕ) → Shortest s e o → Viable s e q → (x : ℕ) → among x o ≡ true → among x q ≡ true
   shortest-inside o q v w x h =
-      and-right (among x o) (among x q) (shortest-within s z e (shared (inside o) (inside q)) (shared-closed _ _ _ (inside o) (inside q) (viable-closed s e z o (v .viable)) (viable-closed s e z q w)) (and-both (among e o) (among e q) (mem-among o (v .viable .contains)) (mem-among q (w .contains))) o (v .viable) (v .least) x h)
+      let both = shared (inside o) (inside q) in
+      let closed = shared-closed _ _ _ (inside o) (inside q) (viable-closed s e z o (v .viable)) (viable-closed s e z q w) in
+      let has = and-both (among e o) (among e q) (mem-among o (v .viable .contains)) (mem-among q (w .contains)) in
+      and-right (among x o) (among x q) (shortest-within s z e both closed has o (v .viable) (v .least) x h)
 
   -- all shortest viable orders for an event are made of the same events
   pub shortest-alike : (o q : List ℕ) → Shortest s e o → Shortest s e q → (x : ℕ) → List·Memᴰ x o → List·Memᴰ x q
@@ -108,7 +111,12 @@ module _ (s : State) (z : Sized s) (e : ℕ) where
     neither k le n = rw (nothing-found candidate k le n, nothing-found every k le n)
 
     -- at the chosen order's length: the first of the candidates' orders is the first of all
-    either-one : (o : List ℕ) → First s e o → (x : Option (List ℕ)) → orderOf candidate (length o) s e false ≡ x → orderOf every (length o) s e false ≡ some o → orElse (orderOf candidate (length o) s e false) (orderOf every (length o) s e false) ≡ some o
+    either-one : (o : List ℕ)
+        → First s e o
+        → (x : Option (List ℕ))
+        → orderOf candidate (length o) s e false ≡ x
+        → orderOf every (length o) s e false ≡ some o
+        → orElse (orderOf candidate (length o) s e false) (orderOf every (length o) s e false) ≡ some o
     either-one o f none q all = rw (q, all)
     either-one o f (some p) q all =
         let v = f .viable in
@@ -139,7 +147,10 @@ module _ (s : State) (z : Sized s) (e : ℕ) where
         go none q = first-nowhere 6 1 _ (λ k lo hi. neither k (omega arith) (λ o n v. chosen-none s e q o v)) ∙ sym q
         go (some o) q =
             let f = chosen-first s e z o q in
-            first-at 6 1 _ (length o) o (mem-long o (f .viable .contains)) (omega (arith, f .viable .short)) (either-one o f (orderOf candidate (length o) s e false) refl (chosen-length o q)) (λ k lo hi. neither k (omega (arith, f .viable .short)) (λ u n v. omega (arith, first-shortest s e o f u v))) ∙ sym q
+            let long = mem-long o (f .viable .contains) in
+            let here = either-one o f (orderOf candidate (length o) s e false) refl (chosen-length o q) in
+            let before : (k : ℕ) → 1 ≤ k → k < length o → orElse (orderOf candidate k s e false) (orderOf every k s e false) ≡ none = λ k lo hi. neither k (omega (arith, f .viable .short)) (λ u n v. omega (arith, first-shortest s e o f u v)) in
+            first-at 6 1 _ (length o) o long (omega (arith, f .viable .short)) here before ∙ sym q
 
   -- S-4: held events first, and the chosen order remains
   pub held-first : heldFirst s e ≡ chosen s e

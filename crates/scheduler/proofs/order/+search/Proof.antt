@@ -11,7 +11,7 @@ use Rattle.members.proofs.set.without.Reads as without-reads
 use Rattle.members.proofs.view.view_after.Reads as view-after-reads
 use Rattle.scheduler.specs.State.{fateOf}
 use Rattle.scheduler.proofs.Sizes.{sized}
-use Rattle.scheduler.proofs.SearchLoops.{search-end, search-more, search-full, search-stuck, search-miss, search-hit, shows-one}
+use Rattle.scheduler.proofs.SearchLoops.{search-end, search-more, search-full, search-stuck, Onward, search-on, shows-one}
 use Rattle.scheduler.proofs.order.search.Reads as search′
 use Rattle.scheduler.proofs.order.search.Kinds as search-kinds
 use Rattle.scheduler.proofs.order.+search.Lts-search as search-lts
@@ -45,7 +45,12 @@ module _ (t : ℕ) where
   search-returns-2 c =
       let st = c .before .before .before in
       let s = st .args .s in
-      search-full s (st .args .left) (st .args .at) (st .args .places) (search-more s (st .args .left) (st .args .at) (st .args .places) (c .before .before .lowest-of .result) (c .before .before .lowest-of .ensures) (c .before .if1 .left)) (c .if2 .taken)
+      search-full s
+      (st .args .left)
+      (st .args .at)
+      (st .args .places)
+      (search-more s (st .args .left) (st .args .at) (st .args .places) (c .before .before .lowest-of .result) (c .before .before .lowest-of .ensures) (c .before .if1 .left))
+      (c .if2 .taken)
 
   search-blocked-in-requires : search-lts.Need-blocked-in-requires (claims t) (search-at t) search′.Post
   search-blocked-in-requires c κs = tt
@@ -76,73 +81,74 @@ module _ (t : ℕ) where
 
   search-search-requires : search-lts.Need-search-requires (claims t) (search-at t) search′.Post
   search-search-requires c κs =
-      let st = c .before .before .before .before .before .before .before .before .before .before .before .before .before .before in
+      let taken = c .before .before .before .before in
+      let more = taken .before .before .before .before .before .before .before in
+      let st = more .before .before .before in
       let s = st .args .s in
-      let lt = c .before .before .before .before .if3 .taken in (
-        omega (arith, c .before .before .before .before .before .before .before .before .before .before .before .if2 .left),
-        (omega (arith, st .pre .1 .0, c .before .before .before .before .before .before .before .before .before .before .before .if2 .left), rw (c .before .do-one .ensures) (shows-one s (c .before .before .before .before .before .lowest-of2 .result) (c .view-after .result) (sized s (st .good .0)) lt (c .view-after .ensures (s .plan) (fateOf s) lt (st .pre .1 .1)))),
+      let lt = taken .if3 .taken in
+      let shown = c .view-after .ensures (s .plan) (fateOf s) lt (st .pre .1 .1) in
+      let z = sized s (st .good .0) in (
+        omega (arith, more .if2 .left),
+        (omega (arith, st .pre .1 .0, more .if2 .left), rw (c .before .do-one .ensures) (shows-one s (taken .before .lowest-of2 .result) (c .view-after .result) z lt shown)),
       )
 
   search-element-write-q : search-lts.Need-element-write-q (claims t) (search-at t) search′.Post
-  search-element-write-q c = omega (arith, c .before .before .before .before .before .before .before .before .before .before .before .before .before .before .before .before .pre .1 .0, c .before .before .before .before .before .before .before .before .before .before .before .before .before .if2 .left)
+  search-element-write-q c =
+      let more = c .before .before .before .before .before .before .before .before .before .before .before .before .before in
+      omega (arith, more .before .before .before .pre .1 .0, more .if2 .left)
+
+  -- where an event was found: places of the code, from the call of `search` back
+  abbrev begun : (c : search-lts.After-search (claims t) (search-at t) search′.Post) → search-lts.Args (claims t) (search-at t) search′.Post
+  begun c = c .before .before .before .before .before .before .before .before .before .before .before .before .before .before .before .args
+
+  onward : (c : search-lts.After-search (claims t) (search-at t) search′.Post)
+      → Onward (begun c .s) (begun c .left) (begun c .at) (begun c .places) (c .before .before .before .before .before .before .lowest-of2 .result) (c .search .result)
+  onward c =
+      let taken = c .before .before .before .before .before in
+      let next = taken .before in
+      let blocked = next .before .before in
+      let more = blocked .before .before .before .before in
+      let first = more .before .before in
+      let st = first .before in
+      let s = st .args .s in
+      search-on s (st .args .left) (st .args .at) (st .args .places)
+      (blocked .blocked-in .result)
+      (next .before .without .result)
+      (blocked .blocked-in .ensures (s .plan) (fateOf s) refl refl (st .pre .1 .1))
+      (next .before .without .ensures)
+      (search-more s (st .args .left) (st .args .at) (st .args .places) (first .lowest-of .result) (first .lowest-of .ensures) (more .before .if1 .left))
+      (more .if2 .left)
+      (next .lowest-of2 .result)
+      (next .lowest-of2 .ensures)
+      (sized s (st .good .0))
+      (taken .if3 .taken)
+      (c .before .before .before .before .with-if .result)
+      (c .before .before .before .without2 .result)
+      (c .before .before .before .before .with-if .ensures)
+      (c .before .before .before .without2 .ensures)
+      (c .search .result)
+      (rw (c .before .before .do-one .ensures) at (c .search .ensures))
 
   search-returns-3 : search-lts.Need-returns-3 (claims t) (search-at t) search′.Post
-  search-returns-3 c =
-      let st = c .before .before .before .before .before .before .before .before .before .before .before .before .before .before .before .before in
-      let s = st .args .s in
-      search-hit s (st .args .left) (st .args .at) (st .args .places)
-      (c .before .before .before .before .before .before .before .before .before .blocked-in .result)
-      (c .before .before .before .before .before .before .before .before .without .result)
-      (c .before .before .before .before .before .before .before .before .before .blocked-in .ensures (s .plan) (fateOf s) refl refl (st .pre .1 .1))
-      (c .before .before .before .before .before .before .before .before .without .ensures)
-      (search-more s (st .args .left) (st .args .at) (st .args .places) (c .before .before .before .before .before .before .before .before .before .before .before .before .before .before .before .lowest-of .result) (c .before .before .before .before .before .before .before .before .before .before .before .before .before .before .before .lowest-of .ensures) (c .before .before .before .before .before .before .before .before .before .before .before .before .before .before .if1 .left))
-      (c .before .before .before .before .before .before .before .before .before .before .before .before .before .if2 .left)
-      (c .before .before .before .before .before .before .before .lowest-of2 .result)
-      (c .before .before .before .before .before .before .before .lowest-of2 .ensures)
-      (sized s (st .good .0))
-      (c .before .before .before .before .before .before .if3 .taken)
-      (c .before .before .before .before .before .with-if .result)
-      (c .before .before .before .before .without2 .result)
-      (c .before .before .before .before .before .with-if .ensures)
-      (c .before .before .before .before .without2 .ensures)
-      (c .before .search .result)
-      (rw (c .before .before .before .do-one .ensures) at (c .before .search .ensures))
-      (c .if4 .taken)
+  search-returns-3 c = onward (c .before) .hit (c .if4 .taken)
 
   search-returns-4 : search-lts.Need-returns-4 (claims t) (search-at t) search′.Post
-  search-returns-4 c =
-      let st = c .before .before .before .before .before .before .before .before .before .before .before .before .before .before .before .before in
-      let s = st .args .s in
-      search-miss s (st .args .left) (st .args .at) (st .args .places)
-      (c .before .before .before .before .before .before .before .before .before .blocked-in .result)
-      (c .before .before .before .before .before .before .before .before .without .result)
-      (c .before .before .before .before .before .before .before .before .before .blocked-in .ensures (s .plan) (fateOf s) refl refl (st .pre .1 .1))
-      (c .before .before .before .before .before .before .before .before .without .ensures)
-      (search-more s (st .args .left) (st .args .at) (st .args .places) (c .before .before .before .before .before .before .before .before .before .before .before .before .before .before .before .lowest-of .result) (c .before .before .before .before .before .before .before .before .before .before .before .before .before .before .before .lowest-of .ensures) (c .before .before .before .before .before .before .before .before .before .before .before .before .before .before .if1 .left))
-      (c .before .before .before .before .before .before .before .before .before .before .before .before .before .if2 .left)
-      (c .before .before .before .before .before .before .before .lowest-of2 .result)
-      (c .before .before .before .before .before .before .before .lowest-of2 .ensures)
-      (sized s (st .good .0))
-      (c .before .before .before .before .before .before .if3 .taken)
-      (c .before .before .before .before .before .with-if .result)
-      (c .before .before .before .before .without2 .result)
-      (c .before .before .before .before .before .with-if .ensures)
-      (c .before .before .before .before .without2 .ensures)
-      (c .before .search .result)
-      (rw (c .before .before .before .do-one .ensures) at (c .before .search .ensures))
-      (c .if4 .left)
+  search-returns-4 c = onward (c .before) .miss (c .if4 .left)
 
   search-returns-5 : search-lts.Need-returns-5 (claims t) (search-at t) search′.Post
   search-returns-5 c =
-      let st = c .before .before .before .before .before .before .before .before .before .before in
+      let blocked = c .before .before .before in
+      let more = blocked .before .before .before .before in
+      let first = more .before .before in
+      let st = first .before in
       let s = st .args .s in
       search-stuck s (st .args .left) (st .args .at) (st .args .places)
-      (c .before .before .before .blocked-in .result)
+      (blocked .blocked-in .result)
       (c .before .before .without .result)
-      (c .before .before .before .blocked-in .ensures (s .plan) (fateOf s) refl refl (st .pre .1 .1))
+      (blocked .blocked-in .ensures (s .plan) (fateOf s) refl refl (st .pre .1 .1))
       (c .before .before .without .ensures)
-      (search-more s (st .args .left) (st .args .at) (st .args .places) (c .before .before .before .before .before .before .before .before .before .lowest-of .result) (c .before .before .before .before .before .before .before .before .before .lowest-of .ensures) (c .before .before .before .before .before .before .before .before .if1 .left))
-      (c .before .before .before .before .before .before .before .if2 .left)
+      (search-more s (st .args .left) (st .args .at) (st .args .places) (first .lowest-of .result) (first .lowest-of .ensures) (more .before .if1 .left))
+      (more .if2 .left)
       (c .before .lowest-of2 .result)
       (c .before .lowest-of2 .ensures)
       (λ lt. omega (arith, c .if3 .left))

@@ -44,7 +44,10 @@ returns c =
     let st = c .before .before .before .before .before .before .before .before .before .before .before in
     let s = st .args .self in
     let held = held-seen s (st .args .view) (st .pre) (at .e) (omega arith) _ _ (c .before .before .before .before .before .is-in .ensures) (c .before .before .before .before .if1 .taken) in
-    let same = members-found s (sized s (st .good .0)) (at .e) (at .able) (at .inv .2) (c .before .before .before .close-set .result) (c .before .before .before .close-set .ensures (s .plan) (fateOf s) refl refl (st .pre)) (c .before .before .if2 .taken) (c .before .find-among .result) (c .before .find-among .ensures) in
+    let closed = c .before .before .before .close-set in
+    let closes = closed .ensures (s .plan) (fateOf s) refl refl (st .pre) in
+    let found = c .before .find-among in
+    let same = members-found s (sized s (st .good .0)) (at .e) (at .able) (at .inv .2) (closed .result) closes (c .before .before .if2 .taken) (found .result) (found .ensures) in
     held-found s (at .e) (at .inv .1) (omega arith) held (c .before .find-among .result) same (c .if3 .taken)
 
 with-if-requires : tie.Need-with-if-requires Inv-loop μ-loop
@@ -75,7 +78,10 @@ loop-again c =
     (w .2 .came) in (
       omega arith,
       rest-next _ _ (at .e) (at .inv .1) (omega arith) (doing-hopeless s (at .e) (told true (c .before .is-in .ensures) (w .0 .taken)) missing),
-      subst (λ (a : ℕ). Hopeful s (inSet a)) (sym (w .5)) (hopeful-less s (at .able) (w .3 .result) (w .4 .result) (at .e) (in-below _ (at .e) (sym (c .before .is-in .ensures) ∙ w .0 .taken)) (w .3 .ensures) (w .4 .ensures) (at .inv .2) missing),
+      subst
+          (λ (a : ℕ). Hopeful s (inSet a))
+          (sym (w .5))
+          (hopeful-less s (at .able) (w .3 .result) (w .4 .result) (at .e) (in-below _ (at .e) (sym (c .before .is-in .ensures) ∙ w .0 .taken)) (w .3 .ensures) (w .4 .ensures) (at .inv .2) missing),
     ))
     (λ w. (
       omega arith,

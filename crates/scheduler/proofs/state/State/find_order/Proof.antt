@@ -19,13 +19,29 @@ returns : tie.Need-returns
 returns c =
     let st = c .before .before .before .before .before .before .before in
     let s = st .args .self in
-    members-found s (sized s (st .good .0)) (st .args .event) (c .before .before .before .before .before .before .view .result .able) (hopeful-all s (c .before .before .before .before .before .before .view .result) (c .before .before .before .before .before .before .view .ensures)) (c .before .before .close-set .result) (c .before .before .close-set .ensures (s .plan) (fateOf s) refl refl (c .before .before .before .before .before .before .view .ensures)) (c .before .if1 .taken) (c .find-among .result) (c .find-among .ensures)
+    members-found s
+    (sized s (st .good .0))
+    (st .args .event)
+    (c .before .before .before .before .before .before .view .result .able)
+    (hopeful-all s (c .before .before .before .before .before .before .view .result) (c .before .before .before .before .before .before .view .ensures))
+    (c .before .before .close-set .result)
+    (c .before .before .close-set .ensures (s .plan) (fateOf s) refl refl (c .before .before .before .before .before .before .view .ensures))
+    (c .before .if1 .taken)
+    (c .find-among .result)
+    (c .find-among .ensures)
 
 returns-2 : tie.Need-returns-2
 returns-2 c =
     let st = c .before .before .before .before .before .before in
     let s = st .args .self in
-    members-none s (sized s (st .good .0)) (st .args .event) (c .before .before .before .before .before .view .result .able) (hopeful-all s (c .before .before .before .before .before .view .result) (c .before .before .before .before .before .view .ensures)) (c .before .close-set .result) (c .before .close-set .ensures (s .plan) (fateOf s) refl refl (c .before .before .before .before .before .view .ensures)) (c .if1 .left)
+    members-none s
+    (sized s (st .good .0))
+    (st .args .event)
+    (c .before .before .before .before .before .view .result .able)
+    (hopeful-all s (c .before .before .before .before .before .view .result) (c .before .before .before .before .before .view .ensures))
+    (c .before .close-set .result)
+    (c .before .close-set .ensures (s .plan) (fateOf s) refl refl (c .before .before .before .before .before .view .ensures))
+    (c .if1 .left)
 
 pub find-order-spec : {M : Type 1} → statement M
 find-order-spec = tie.close (tie.spec view-requires close-set-requires find-among-requires returns returns-2)

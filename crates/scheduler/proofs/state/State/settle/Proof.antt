@@ -51,7 +51,9 @@ returns-2 c =
     let s = at .next in
     let e = c .before .before .before .before .find-barred .result in
     let same = c .before .before .before .before .find-barred .ensures in
-    sym (at .inv .0 ∙ up-rest s (at .left) (turn-rests s e same (λ lt. omega (arith, c .before .before .before .if2 .left)) (c .before .before .find-held .result) (c .before .before .find-held .ensures) (not-true _ (c .if3 .taken))))
+    let found = c .before .before .find-held in
+    let rests = turn-rests s e same (λ lt. omega (arith, c .before .before .before .if2 .left)) (found .result) (found .ensures) (not-true _ (c .if3 .taken)) in
+    sym (at .inv .0 ∙ up-rest s (at .left) rests)
 
 do-order-requires : tie.Need-do-order-requires Inv-loop μ-loop
 do-order-requires c κs = tt
@@ -62,18 +64,28 @@ view-requires-2 c κs = tt
 lowest-of-requires-2 : tie.Need-lowest-of-requires-2 Inv-loop μ-loop
 lowest-of-requires-2 c κs = tt
 
+-- a turn was made
+turned : (c : tie.Joined2 Inv-loop μ-loop) → settleOnce (c .before .before .before .loop .next) ≡ some (c .if2 .next)
+turned c =
+    let s = c .before .before .before .loop .next in
+    let e = c .before .find-barred .result in
+    let same = c .before .find-barred .ensures in
+    ⊎-elim
+    (λ w. turn-refuses s e same (w .0 .taken) ∙ ap {B = Option State} some (sym (w .2 ∙ w .1 .ensures)))
+    (λ w.
+    turn-does s e same (λ lt. omega (arith, w .0 .left)) (w .1 .result) (w .1 .ensures) (not-false _ (w .3 .left))
+    ∙ ap {B = Option State} some (sym (w .5 ∙ w .4 .ensures)))
+    (c .if2 .came)
+
 returns-3 : tie.Need-returns-3 Inv-loop μ-loop
 returns-3 c =
-    let at = c .before .before .before .before .before .before .loop in
-    let s = at .next in
-    let e = c .before .before .before .before .find-barred .result in
-    let same = c .before .before .before .before .find-barred .ensures in
-    let turned : settleOnce s ≡ some (c .before .before .before .if2 .next) = ⊎-elim
-    (λ w. turn-refuses s e same (w .0 .taken) ∙ ap {B = Option State} some (sym (w .2 ∙ w .1 .ensures)))
-    (λ w. turn-does s e same (λ lt. omega (arith, w .0 .left)) (w .1 .result) (w .1 .ensures) (not-false _ (w .3 .left)) ∙ ap {B = Option State} some (sym (w .5 ∙ w .4 .ensures)))
-    (c .before .before .before .if2 .came) in
-    let rests = none-turned (c .before .before .before .if2 .next) (c .before .before .view2 .result) (c .before .before .view2 .ensures) (c .before .lowest-of2 .result) (c .before .lowest-of2 .ensures) (c .if4 .taken) in
-    sym (at .inv .0 ∙ up-next s (at .left) (c .before .before .before .before .before .loop-test .taken) _ turned ∙ up-rest (c .before .before .before .if2 .next) (at .left - 1) rests)
+    let made = c .before .before .before in
+    let at = made .before .before .before .loop in
+    let view = c .before .before .view2 in
+    let low = c .before .lowest-of2 in
+    let rests = none-turned (made .if2 .next) (view .result) (view .ensures) (low .result) (low .ensures) (c .if4 .taken) in
+    let next = up-next (at .next) (at .left) (made .before .before .loop-test .taken) _ (turned made) in
+    sym (at .inv .0 ∙ next ∙ up-rest (made .if2 .next) (at .left - 1) rests)
 
 sub-left : tie.Need-sub-left Inv-loop μ-loop
 sub-left c = omega arith
@@ -83,15 +95,9 @@ loop-less c = omega arith
 
 loop-again : tie.Need-loop-again Inv-loop μ-loop
 loop-again c =
-    let at = c .before .before .before .before .before .before .loop in
-    let s = at .next in
-    let e = c .before .before .before .before .find-barred .result in
-    let same = c .before .before .before .before .find-barred .ensures in
-    let turned : settleOnce s ≡ some (c .before .before .before .if2 .next) = ⊎-elim
-    (λ w. turn-refuses s e same (w .0 .taken) ∙ ap {B = Option State} some (sym (w .2 ∙ w .1 .ensures)))
-    (λ w. turn-does s e same (λ lt. omega (arith, w .0 .left)) (w .1 .result) (w .1 .ensures) (not-false _ (w .3 .left)) ∙ ap {B = Option State} some (sym (w .5 ∙ w .4 .ensures)))
-    (c .before .before .before .if2 .came) in
-    (at .inv .0 ∙ up-next s (at .left) (c .before .before .before .before .before .loop-test .taken) _ turned, c .before .before .view2 .ensures)
+    let made = c .before .before .before in
+    let at = made .before .before .before .loop in
+    (at .inv .0 ∙ up-next (at .next) (at .left) (made .before .before .loop-test .taken) _ (turned made), c .before .before .view2 .ensures)
 
 returns-4 : tie.Need-returns-4 Inv-loop μ-loop
 returns-4 c = sym (c .before .loop .inv .0 ∙ up-end (c .before .loop .left) _ (c .loop-test .left))
