@@ -14,11 +14,11 @@ use Rattle.plan.proofs.Tests.{one-le}
 use Rattle.plan.proofs.CallDecoding.{size-some, listed-inside, bad-inside, decode-first, decode-none, decode-broken}
 use Rattle.scheduler.specs.State.{Sized}
 use Rattle.scheduler.specs.Coherent.{coherent}
-use Rattle.scheduler.specs.Answers.{turnsDown, accept, call}
+use Rattle.scheduler.specs.Answers.{turnsDown, idle, accept, call}
 use Rattle.scheduler.specs.Lists.{scheduler, after, turnedDown}
 use Rattle.scheduler.specs.Runner.{ranOn}
 use Rattle.scheduler.proofs.Branches.{call-fault, call-accept}
-use Rattle.scheduler.proofs.CallSteps.{turned-down, not-turned-down}
+use Rattle.scheduler.proofs.CallSteps.{turned-down, not-turned-down, idle-same}
 use Rattle.theory.proofs.Coherence.{call-coherent, sized-call, call-taken, fault-answer}
 use Rattle.lists.specs.Types.{Call, CallRead, Listed, End, Bad, State, Admitted, Reply, Outcome}
 
@@ -114,6 +114,15 @@ module _ {s t : State} {b : List ℕ} {at n : ℕ} (u : Underway s b t at n) (re
         made w m
         (e ∙ sym (ap (λ (r : Reply). r .state) (call-accept t c q)))
         (omega (arith, f, ap oneIf (call-taken t c q)))
+
+    -- taken, and idle: nothing changes, so the call is not made
+    pub again-idle : (w : State) (m : ℕ)
+        → turnsDown t c ≡ false
+        → idle t c ≡ true
+        → w ≡ t
+        → m ≡ n
+        → Underway s b w (at + size) m
+    again-idle w m d i e f = again-taken w m d (e ∙ sym (idle-same t c i)) f
 
   -- the end
   pub ended : read ≡ End → outcomeOf t n ≡ ranOn s (decode b)

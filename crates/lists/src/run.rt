@@ -52,7 +52,9 @@ fn take_calls(state: State, calls: &[u8]) -> Outcome
                 if next.turns_down(made) {
                     refused += 1;
                 } else {
-                    next = next.after_call(made);
+                    if !next.is_idle(made) {
+                        next = next.after_call(made);
+                    }
                 }
                 at += call_size(made);
             }

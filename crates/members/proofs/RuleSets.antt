@@ -1,14 +1,14 @@
--- What one rule asks for and blocks, over sets as code reads and makes them.
+-- What one rule asks for, forbids, owes and blocks, over sets as code reads and makes them.
 use Prim.Native.Nat.{ℕ, _<_}
 use borrow.Author.Tests.{eqb-true, lt-ltb}
-use mathlib.Core.Bool.{Bool, true, false, not, _&&_, _||_}
+use mathlib.Core.Bool.{Bool, true, false, not, _&&_, _||_, or-false}
 use mathlib.Core.Logic.{inl, inr}
-use mathlib.Core.Path.{_≡_, refl, _∙_}
+use mathlib.Core.Path.{_≡_, refl, sym, _∙_}
 use lib.Dec.{eqb, ltb}
 use Rattle.plan.specs.declared.rule.Rule.the-variants.{Order, Need, Conditional}
 use Rattle.plan.specs.Fates.{Fates, isDone, isGone}
 use Rattle.plan.specs.Plans.{delayable}
-use Rattle.plan.specs.Rules.{bars}
+use Rattle.plan.specs.Rules.{bars, makesWait, forbids, owes}
 use Rattle.plan.proofs.Tests.{either}
 use Rattle.orders.specs.Closed.{asks}
 use Rattle.orders.specs.Stepwise.{follows}
@@ -84,6 +84,58 @@ module _ (p : Plan) (f : Fates) (v : View) (shows : Shows p f v) (r : Rule) (a b
         → ((x || y) && (z || w)) ≡ asks p f (inSet m) r
     unfolding asks
     conditional-asks c x y z w is h k i j = rw (is, h, k, i, j, shows .done a, shows .done b)
+
+  -- what it forbids
+  module _ (e : ℕ) where
+    pub order-forbids : (d w x y : Bool)
+        → r ≡ Order a b
+        → d ≡ inSet (v .done) b
+        → w ≡ inSet (v .waits) b
+        → x ≡ inSet (v .done) a
+        → y ≡ inSet (v .gone) a
+        → ((eqb e a && d) || ((eqb e b && w) && not (x || y))) ≡ forbids p f r e
+    unfolding forbids bars makesWait
+    order-forbids d w x y is hd hw hx hy =
+        rw (is, hd, hw, hx, hy, shows .done b, shows .waits b, shows .done a, shows .gone a)
+
+    pub need-forbids : (g : Bool) → r ≡ Need a b → g ≡ inSet (v .gone) b → (eqb e a && g) ≡ forbids p f r e
+    unfolding forbids bars makesWait
+    need-forbids g is hg = rw (is, hg, shows .gone b) (sym (or-false (eqb e a && isGone (f b))))
+
+    pub conditional-forbids : (c : ℕ) (g d x : Bool)
+        → r ≡ Conditional a b c
+        → g ≡ inSet (v .gone) c
+        → d ≡ inSet (v .done) b
+        → x ≡ inSet (v .done) a
+        → (g && ((eqb e a && d) || (eqb e b && x))) ≡ forbids p f r e
+    unfolding forbids bars makesWait
+    conditional-forbids c g d x is hg hd hx =
+        rw (is, hg, hd, hx, shows .gone c, shows .done b, shows .done a) (sym (or-false (isGone (f c) && _)))
+
+  -- what it owes
+  pub order-owes : r ≡ Order a b → false ≡ owes p f r
+  unfolding owes
+  order-owes is = rw is
+
+  pub need-owes : (x y z : Bool)
+      → r ≡ Need a b
+      → x ≡ inSet (v .done) a
+      → y ≡ inSet (v .done) b
+      → z ≡ inSet (v .gone) b
+      → (x && not (y || z)) ≡ owes p f r
+  unfolding owes
+  need-owes x y z is hx hy hz = rw (is, hx, hy, hz, shows .done a, shows .done b, shows .gone b)
+
+  pub conditional-owes : (c : ℕ) (x y z w : Bool)
+      → r ≡ Conditional a b c
+      → x ≡ inSet (v .done) a
+      → y ≡ inSet (v .done) b
+      → z ≡ inSet (v .done) c
+      → w ≡ inSet (v .gone) c
+      → ((x && y) && not (z || w)) ≡ owes p f r
+  unfolding owes
+  conditional-owes c x y z w is hx hy hz hw =
+      rw (is, hx, hy, hz, hw, shows .done a, shows .done b, shows .done c, shows .gone c)
 
   -- what it blocks: the set m, then with a, then with b
   module _ (left m : ℕ) (x : ℕ) (lt : x < 16) where

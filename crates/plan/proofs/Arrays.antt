@@ -10,6 +10,10 @@ use lib.ListN.{length, getD, set, length-set}
 use lib.Seq.{getD-set-same, getD-set-other}
 use Rattle.plan.specs.Base.{readAt, storeAt}
 
+-- below the end stands the element
+pub read-in : {A : Type 0} (n : ℕ) (l : List A) (i : ℕ) (d : A) → i < n → readAt n l i d ≡ getD l i d
+read-in n l i d lt = ap (λ t. cond t (getD l i d) d) (lt-ltb i n lt)
+
 -- past the end stands the default
 pub read-past : {A : Type 0} (n : ℕ) (l : List A) (i : ℕ) (d : A) → n ≤ i → readAt n l i d ≡ d
 read-past n l i d ge = ap (λ t. cond t (getD l i d) d) (le-ltb i n ge)

@@ -1,14 +1,16 @@
 -- Tests of a rule and of an event over the array of a plan's events: what the code reads out of it decides them.
-use Prim.Native.Nat.{ℕ}
+use Prim.Native.Nat.{ℕ, _≤_, _<_}
 use mathlib.Core.Bool.{Bool, not, _&&_, _||_}
 use mathlib.Core.List.{List}
 use mathlib.Core.Path.{_≡_, sym, _∙_, ap}
 use lib.Dec.{eqb}
+use lib.ListN.{getD}
 use Rattle.plan.specs.Prelude.{Fate, Event, Rule, Order, Need, Conditional, Plan}
 use Rattle.plan.specs.Base.{readAt}
 use Rattle.plan.specs.Fates.{Fates, isOpen, isHeld, isSettled}
 use Rattle.plan.specs.Plans.{blankEvent, attributesOf, holdsBit, forcible, rejectable, delayable}
 use Rattle.plan.specs.Rules.{enforceable, makesWait, ready}
+use Rattle.plan.proofs.Arrays.{read-in, read-past}
 
 module _ (p : Plan) where
   -- bit k of the plan's event e, where the code read the event v in the array and r in its attributes
@@ -20,6 +22,21 @@ module _ (p : Plan) where
         bit
         ∙ ap (λ (w : Event). holdsBit k (w .attributes)) read
         ∙ ap (λ (l : List Event). holdsBit k (readAt 16 l e blankEvent .attributes)) (sym same)
+
+  -- bit k of the plan's event e, where the code read the attributes x in the array, or took 0 past its places, and r in x
+  module _ (events : List Event) (same : p .events ≡ events) (k e x : ℕ) (r : Bool) (bit : r ≡ holdsBit k x) where
+    attributes-read : readAt 16 events e blankEvent .attributes ≡ x → r ≡ holdsBit k (attributesOf p e)
+    attributes-read read =
+        bit
+        ∙ ap (holdsBit k) (sym read)
+        ∙ ap (λ (l : List Event). holdsBit k (readAt 16 l e blankEvent .attributes)) (sym same)
+
+    pub bit-in : e < 16 → x ≡ getD events e blankEvent .attributes → r ≡ holdsBit k (attributesOf p e)
+    bit-in lt is =
+        attributes-read (ap (λ (w : Event). w .attributes) (read-in 16 events e blankEvent lt) ∙ sym is)
+
+    pub bit-past : 16 ≤ e → x ≡ 0 → r ≡ holdsBit k (attributesOf p e)
+    bit-past ge is = attributes-read (ap (λ (w : Event). w .attributes) (read-past 16 events e blankEvent ge) ∙ sym is)
 
   module _ (rule : Rule) (a b : ℕ) where
     pub order-enforced : (x y : Bool)

@@ -1,6 +1,5 @@
 // What a sheet declares.
 use super::event::Event;
-use super::event::event_in;
 use super::rule::Rule;
 use super::rule::RuleLine;
 ghost use mathlib.Core.Path.{_≡_};
@@ -33,7 +32,7 @@ pub fn empty_plan() -> Plan
     }
 }
 
-// Has the step an event?
+// Has the step an event? Past the places stand blanks, of step 0.
 pub fn has_event(plan: Plan, step: u8) -> bool
     ensures { λ r. ⌜ r ≡ hasEvent plan step ⌝ }
 {
@@ -41,9 +40,15 @@ pub fn has_event(plan: Plan, step: u8) -> bool
     let n = plan.event_count;
     let mut e: u8 = 0;
     while e < n {
-        let event = event_in(events, e);
-        if event.step == step {
-            return true;
+        if e < 16 {
+            let event = events[e as usize];
+            if event.step == step {
+                return true;
+            }
+        } else {
+            if step == 0 {
+                return true;
+            }
         }
         e += 1;
     }

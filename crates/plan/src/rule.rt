@@ -118,22 +118,48 @@ pub fn is_enforceable(events: [Event; 16], rule: Rule) -> bool
 {
     match rule {
         Rule::Order(a, b) => {
-            let first = event_in(events, a);
-            let last = event_in(events, b);
-            is_delayable(last.attributes) | is_rejectable(first.attributes)
+            let mut first: u8 = 0;
+            if a < 16 {
+                let event = events[a as usize];
+                first = event.attributes;
+            }
+            let mut last: u8 = 0;
+            if b < 16 {
+                let event = events[b as usize];
+                last = event.attributes;
+            }
+            is_delayable(last) | is_rejectable(first)
         }
         Rule::Need(a, b) => {
-            let first = event_in(events, a);
-            let last = event_in(events, b);
-            is_rejectable(first.attributes) | is_forcible(last.attributes)
+            let mut first: u8 = 0;
+            if a < 16 {
+                let event = events[a as usize];
+                first = event.attributes;
+            }
+            let mut last: u8 = 0;
+            if b < 16 {
+                let event = events[b as usize];
+                last = event.attributes;
+            }
+            is_rejectable(first) | is_forcible(last)
         }
         Rule::Conditional(a, b, c) => {
-            let first = event_in(events, a);
-            let second = event_in(events, b);
-            let last = event_in(events, c);
-            is_rejectable(first.attributes)
-                | is_rejectable(second.attributes)
-                | is_forcible(last.attributes)
+            let mut first: u8 = 0;
+            if a < 16 {
+                let event = events[a as usize];
+                first = event.attributes;
+            }
+            let mut second: u8 = 0;
+            if b < 16 {
+                let event = events[b as usize];
+                second = event.attributes;
+            }
+            let mut last: u8 = 0;
+            if c < 16 {
+                let event = events[c as usize];
+                last = event.attributes;
+            }
+            is_rejectable(first) | is_rejectable(second) | is_forcible(last)
         }
     }
 }

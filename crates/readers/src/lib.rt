@@ -1,10 +1,8 @@
 // What a caller reads of a state. An undeclared number answers so, and never "open".
 use plan::event::Event;
 use plan::fate::Fate;
-use plan::fate::fate_in;
 use plan::fate::is_held;
 use plan::history::Entry;
-use plan::mark::mark_in;
 use plan::rule::Rule;
 use scheduler::state::State;
 ghost use mathlib.Core.Path.{_≡_};
@@ -71,7 +69,13 @@ pub fn held_count(state: State) -> usize
     let mut count: usize = 0;
     let mut i: u8 = 0;
     while i < n {
-        count += is_held(fate_in(standings, i)) as usize;
+        let mut is = false;
+        if i < 16 {
+            let standing = standings[i as usize];
+            let fate = standing.fate;
+            is = is_held(fate);
+        }
+        count += is as usize;
         i += 1;
     }
     count
@@ -87,7 +91,11 @@ pub fn broken_count(state: State) -> usize
     let mut count: usize = 0;
     let mut i: u8 = 0;
     while i < n {
-        count += mark_in(broken, i) as usize;
+        let mut is = false;
+        if i < 16 {
+            is = broken[i as usize];
+        }
+        count += is as usize;
         i += 1;
     }
     count

@@ -9,24 +9,26 @@ use mathlib.Core.List.{[], _∷_}
 use mathlib.Core.Option.{Option, none, some}
 use mathlib.Core.Path.{_≡_, refl, sym, _∙_, ap}
 use lib.Dec.{eqb, leb}
-use lib.ListN.{take}
+use lib.ListN.{take, getD}
 use Rattle.scheduler.specs.declared.order.Found.{Found}
-use Rattle.scheduler.specs.Prelude.{Fate, Done, Refused, Lapsed, Event, State, Unknown, AlreadyClosed, NotClosed, Incoherent, CallFault, Call, Submit, Close, Finish, Is, Made, Reply}
+use Rattle.scheduler.specs.Prelude.{Fate, Refused, Standing, State, Unknown, AlreadyClosed, NotClosed, Incoherent, CallFault, Call, Submit, Close, Finish, Is, Made, Reply}
 use Rattle.plan.specs.Base.{anyBelow, readAt}
 use Rattle.plan.specs.Plans.{blankEvent, eventCount, ruleCount, stepOf, ruleAt, rejectable, delayable, hasEvent}
 use Rattle.scheduler.specs.State.{fateOf, closedAt, hold, settleAs, shut, breakRule}
-use Rattle.plan.specs.Fates.{isOpen}
+use Rattle.plan.specs.Fates.{isOpen, isHeld, blankStanding}
 use Rattle.scheduler.specs.Rules.{stands, strains}
 use Rattle.plan.specs.Rules.{forbids, owes}
 use Rattle.scheduler.specs.Orders.{chosen, doAll, foundOrder}
 use Rattle.scheduler.specs.Calls.{settle, breakIf, recordBroken, doAlone, decide, submit, lapse, closeStep, finish}
 use Rattle.plan.specs.Faults.{firstFault}
 use Rattle.scheduler.specs.Coherent.{coherent}
-use Rattle.scheduler.specs.Answers.{unclosedAt, callRows, turnsDown, callFault, accept, turnedDownBy, call}
+use Rattle.scheduler.specs.Answers.{unclosedAt, callRows, turnsDown, callFault, idle, accept, turnedDownBy, call}
 use Rattle.scheduler.specs.Internal.Turned.{lapseIf}
-use Rattle.plan.proofs.Tests.{clash}
+use Rattle.plan.proofs.Arrays.{read-in}
+use Rattle.plan.proofs.Tests.{clash, any-false}
+use Rattle.scheduler.proofs.Laws.{fate-past}
 use Rattle.plan.proofs.Tables.{row-hit, row-miss, rows-none}
-use Rattle.scheduler.proofs.SettleLoops.{order-found, order-missing}
+use Rattle.scheduler.proofs.SettleLoops.{order-found, order-missing, finish-unheld}
 use Rattle.scheduler.proofs.Branches.{decide-order, decide-refuse, decide-alone, submit-same, submit-delayed, submit-decided, lapse-yes, lapse-no, turns-some, turns-none, call-fault, call-accept}
 
 -- what a test says, negated in the code
@@ -36,39 +38,6 @@ module _ (is b : Bool) (same : is ≡ b) where
 
   pub says-yes : not is ≡ false → b ≡ true
   says-yes h = sym same ∙ not-false is h
-
--- a rule is recorded as broken where the test says so
-pub break-yes : (is : Bool) (s : State) (i : ℕ) → is ≡ true → breakRule s i ≡ breakIf is s i
-break-yes is s i h = rw h
-
--- doing an event alone: the loop over the rules has recorded those below i
-module _ (s : State) (e : ℕ) (after : State) where
-  -- none at first
-  pub record-zero : recordBroken 0 s e after ≡ after
-  unfolding recordBroken
-  record-zero = refl
-
-  -- rule i, if it is strained
-  pub record-next : (i : ℕ) (next : State) (is : Bool)
-      → after ≡ settleAs Done s e
-      → recordBroken i s e after ≡ next
-      → is ≡ (stands s i && (forbids (s .plan) (fateOf s) (ruleAt (s .plan) i) e || owes (s .plan) (fateOf after) (ruleAt (s .plan) i)))
-      → recordBroken (i + 1) s e after ≡ breakIf is next i
-  unfolding recordBroken strains
-  record-next i next is done before test = rw (add-one i, before, test, done)
-
-  -- all at last
-  pub record-all : (i : ℕ) (next : State)
-      → after ≡ settleAs Done s e
-      → recordBroken i s e after ≡ next
-      → i ≤ ruleCount (s .plan)
-      → ruleCount (s .plan) ≤ i
-      → next ≡ doAlone s e
-  unfolding doAlone
-  record-all i next done before le ge =
-      sym before
-      ∙ ap (λ (n : ℕ). recordBroken n s e after) (le-antisymm le ge)
-      ∙ ap (recordBroken (ruleCount (s .plan)) s e) done
 
 -- deciding an event, by what the search for an order gives
 module _ (s : State) (e : ℕ) (r : Found) (same : r ≡ foundOrder (chosen s e)) where
@@ -87,75 +56,50 @@ module _ (s : State) (e : ℕ) (r : Found) (same : r ≡ foundOrder (chosen s e)
     pub decide-done : is ≡ false → t ≡ doAlone s e → t ≡ decide s e
     decide-done h done = done ∙ sym (decide-alone s e (order-missing s e r same missing) (sym test ∙ h))
 
--- handing in an event
-module _ (s : State) (e : ℕ) (is : Bool) (test : is ≡ isOpen (fateOf s e)) where
-  -- one that is not open
-  pub hand-same : not is ≡ true → s ≡ submit s e
-  hand-same h = sym (submit-same s e (says-no is _ test h))
+-- whether an event is open, by what the code reads in its place, and past the places
+module _ (s : State) (e : ℕ) where
+  pub fate-in : (o : Bool) → e < 16 → o ≡ isOpen (getD (s .standings) e blankStanding .fate) → o ≡ isOpen (fateOf s e)
+  fate-in o lt h = h ∙ ap (λ (v : Standing). isOpen (v .fate)) (sym (read-in 16 (s .standings) e blankStanding lt))
 
-  module _ (held t : State) (late : Bool) (fresh : not is ≡ false) (holds : held ≡ hold s e) (delay : late ≡ delayable (s .plan) e) where
-    -- an open one that is delayable
-    pub hand-delayed : late ≡ true → t ≡ settle held → t ≡ submit s e
-    hand-delayed d done = done ∙ ap settle holds ∙ sym (submit-delayed s e (says-yes is _ test fresh) (sym delay ∙ d))
+  pub fate-blank : 16 ≤ e → true ≡ isOpen (fateOf s e)
+  fate-blank ge = sym (ap isOpen (fate-past s e ge))
 
-    -- an open one that is not
-    pub hand-decided : (u : State) → late ≡ false → u ≡ decide held e → t ≡ settle u → t ≡ submit s e
-    hand-decided u d first done =
-        done
-        ∙ ap settle (first ∙ ap (λ (w : State). decide w e) holds)
-        ∙ sym (submit-decided s e (says-yes is _ test fresh) (sym delay ∙ d))
+-- handing in an open event
+module _ (s : State) (e : ℕ) (fresh : isOpen (fateOf s e) ≡ true) (held t : State) (late : Bool) (holds : held ≡ hold s e) (delay : late ≡ delayable (s .plan) e) where
+  -- one that is delayable
+  pub hand-delayed : late ≡ true → t ≡ settle held → t ≡ submit s e
+  hand-delayed d done = done ∙ ap settle holds ∙ sym (submit-delayed s e fresh (sym delay ∙ d))
 
--- one event lapses, or not
-module _ (s : State) (e k : ℕ) where
-  -- the test by what the code reads
-  pub lapse-test : (v : Event) (x : Fate) (is : Bool)
-      → v ≡ readAt 16 (s .plan .events) e blankEvent
-      → x ≡ fateOf s e
-      → is ≡ isOpen x
-      → (is && eqb (v .step) k) ≡ (isOpen (fateOf s e) && eqb (stepOf (s .plan) e) k)
-  lapse-test v x is read fate test =
-      ap (λ (b : Bool). b && eqb (v .step) k) (test ∙ ap isOpen fate)
-      ∙ ap (λ (w : Event). isOpen (fateOf s e) && eqb (w .step) k) read
+  -- one that is not
+  pub hand-decided : (u : State) → late ≡ false → u ≡ decide held e → t ≡ settle u → t ≡ submit s e
+  hand-decided u d first done =
+      done
+      ∙ ap settle (first ∙ ap (λ (w : State). decide w e) holds)
+      ∙ sym (submit-decided s e fresh (sym delay ∙ d))
 
-  -- it lapses
-  pub lapses : (isOpen (fateOf s e) && eqb (stepOf (s .plan) e) k) ≡ true → settleAs Lapsed s e ≡ lapseIf s e k
-  unfolding lapseIf
-  lapses h = rw (h, lapseIf)
+-- a call that is idle leaves the state as it is
+pub idle-same : (s : State) (c : Call) → idle s c ≡ true → accept s c .state ≡ s
+unfolding idle accept
+idle-same s (Submit e) h = submit-same s e (not-true (isOpen (fateOf s e)) h)
+idle-same s (Close k) h = absurd (clash h refl)
+idle-same s Finish h = finish-unheld s (any-false _ _ (not-true (anyBelow (eventCount (s .plan)) (λ e. isHeld (fateOf s e))) h))
 
-  -- it stays
-  pub stays : (isOpen (fateOf s e) && eqb (stepOf (s .plan) e) k) ≡ false → s ≡ lapseIf s e k
-  unfolding lapseIf
-  stays h = rw (h, lapseIf)
+-- what code answers for each call
+module _ (s : State) (made : Call) where
+  pub submit-idle : (e : ℕ) (o : Bool) → made ≡ Submit e → o ≡ isOpen (fateOf s e) → not o ≡ idle s made
+  unfolding idle
+  submit-idle e o is h = rw (is, h)
 
-  -- one turn of the lapsing
-  lapse-turn : (n : ℕ) → lapse (suc n) e s k ≡ lapse n (suc e) (lapseIf s e k) k
-  lapse-turn n = go (isOpen (fateOf s e) && eqb (stepOf (s .plan) e) k) refl
-    where
-      go : (b : Bool)
-          → (isOpen (fateOf s e) && eqb (stepOf (s .plan) e) k) ≡ b
-          → lapse (suc n) e s k ≡ lapse n (suc e) (lapseIf s e k) k
-      go true h = lapse-yes n e s k h ∙ ap (λ (t : State). lapse n (suc e) t k) (lapses h)
-      go false h = lapse-no n e s k h ∙ ap (λ (t : State). lapse n (suc e) t k) (stays h)
+  pub close-idle : (k : ℕ) → made ≡ Close k → false ≡ idle s made
+  unfolding idle
+  close-idle k is = rw is
 
--- the loop over a step's events, what is left of it from e on: all at first
-pub lapse-zero : (n : ℕ) (s : State) (k : ℕ) → lapse (n - 0) 0 s k ≡ lapse n 0 s k
-lapse-zero n s k = rw (sub-zero n)
-
--- one event less
-pub lapse-next : (n e : ℕ) (s t : State) (k : ℕ)
-    → e < n
-    → t ≡ lapseIf s e k
-    → lapse (n - (e + 1)) (e + 1) t k ≡ lapse (n - e) e s k
-lapse-next n e s t k lt same =
-    let more : n - e ≡ suc (n - (e + 1)) = omega arith in
-    rw (more, lapse-turn s e k (n - (e + 1)), same, add-one e)
-
--- none at last
-pub lapse-end : (n e : ℕ) (s : State) (k : ℕ) → n ≤ e → lapse (n - e) e s k ≡ s
-unfolding lapse
-lapse-end n e s k ge =
-    let done : n - e ≡ 0 = omega arith in
-    rw done
+  pub finish-idle : (h : Bool)
+      → made ≡ Finish
+      → h ≡ anyBelow (eventCount (s .plan)) (λ e. isHeld (fateOf s e))
+      → not h ≡ idle s made
+  unfolding idle
+  finish-idle h is same = rw (is, same)
 
 -- closing: shutting the step leaves the plan
 pub close-shut : (s : State) (k : ℕ) → settle (lapse (eventCount ((shut s k) .plan)) 0 (shut s k) k) ≡ closeStep s k

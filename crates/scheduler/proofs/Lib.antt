@@ -11,5 +11,6 @@ pub mod SettleLoops
 pub mod Grounds
 pub mod Doing
 pub mod Decimals
+pub mod CallLoops
 pub mod CallSteps
 pub mod Cases

@@ -24,13 +24,13 @@ use Rattle.scheduler.specs.Orders.{doOne, doAll, chosen, noOrder, foundO
 use Rattle.scheduler.specs.State.{fateOf, settleAs}
 use Rattle.plan.specs.Fates.{isHeld}
 use Rattle.scheduler.specs.Rules.{stands, barred}
-use Rattle.scheduler.specs.Calls.{toRefuse, toDo, settleOnce, settleUpTo, settle, refuseHeld}
+use Rattle.scheduler.specs.Calls.{toRefuse, toDo, settleOnce, settleUpTo, settle, refuseHeld, finish}
 use Rattle.scheduler.specs.Internal.Turned.{turnOf}
 use Rattle.plan.proofs.Tests.{and-left, clash, first-some, when-some, some-none}
 use Rattle.scheduler.proofs.Branches.{upTo-none, upTo-some, lowestHeld, refuse-none, refuse-some}
 use Rattle.plan.proofs.Loops.{Rest, first-here, first-end}
 use Rattle.scheduler.proofs.Searching.{chosen-short}
-use Rattle.scheduler.proofs.SearchLoops.{fits, answer-some, answer-none, lowest-sixteen}
+use Rattle.scheduler.proofs.SearchLoops.{fits, answer-some, answer-none, lowest-below, lowest-past, lowest-sixteen}
 use Rattle.scheduler.proofs.Laws.{fate-past}
 use Rattle.orders.proofs.Lowest.{first-nowhere, lowest-some, lowest-none, lowest-bounds}
 use Rattle.members.proofs.Bits.{in-zero}
@@ -85,27 +85,6 @@ module _ (l : List ℕ) (n i : ℕ) (s : State) where
   unfolding doAll
   do-end le = rw (drop-of-length-le (take n l) {i = i} le)
 
--- a loop that makes a turn at the first event that gives something
-module _ {A : Type 0} (n : ℕ) (g : ℕ → Option A) (x : ℕ) (before : Rest n g x) (s : State) (f : A → State) where
-  pub turn-made : x < n
-      → (a : A)
-      → g x ≡ some a
-      → record { moved = true; state = f a } ≡ turnOf s (Option·map f (firstOf n 0 g))
-  unfolding turnOf
-  turn-made lt a here = rw (before, first-here n x g a lt here)
-
-  pub turn-none : n ≤ x → record { moved = false; state = s } ≡ turnOf s (Option·map f (firstOf n 0 g))
-  unfolding turnOf
-  turn-none ge = rw (before, first-end n x g ge)
-
--- what code is told of an event's being held is what the state says
-pub held-told : (s : State) (e : ℕ) (x : Fate) (b t : Bool)
-    → x ≡ fateOf s e
-    → b ≡ isHeld x
-    → b ≡ t
-    → isHeld (fateOf s e) ≡ t
-held-told s e x b t f h a = ap isHeld (sym f) ∙ sym h ∙ a
-
 -- what a view says of a declared event's being held
 pub held-seen : (s : State) (v : View)
     → Shows (s .plan) (fateOf s) v
@@ -117,6 +96,20 @@ pub held-seen : (s : State) (v : View)
     → isHeld (fateOf s e) ≡ t
 held-seen s v w e lt b t is h =
     sym (w .held e ∙ ap (λ (x : Bool). x && isHeld (fateOf s e)) (lt-ltb e (eventCount (s .plan)) lt)) ∙ sym is ∙ h
+
+-- where nothing is held there is no turn to make
+module _ (s : State) (unheld : (x : ℕ) → x < eventCount (s .plan) → isHeld (fateOf s x) ≡ false) where
+  none-refused : toRefuse s ≡ none
+  unfolding toRefuse lowest
+  none-refused = first-nowhere (eventCount (s .plan)) 0 _ (λ x lo hi. rw (unheld x (omega arith)))
+
+  none-done : toDo s ≡ none
+  unfolding toDo
+  none-done = first-nowhere (eventCount (s .plan)) 0 _ (λ x lo hi. rw (unheld x (omega arith)))
+
+  pub unheld-turned : settleOnce s ≡ none
+  unfolding settleOnce
+  unheld-turned = rw (none-refused, none-done, settleOnce)
 
 -- the events that a view shows held and a pass over the rules barred: the lowest is the one to refuse
 module _ (s : State) (v : View) (w : Shows (s .plan) (fateOf s) v) where
@@ -144,7 +137,7 @@ module _ (s : State) (v : View) (w : Shows (s .plan) (fateOf s) v) where
     unfolding toRefuse
     refuse-same = lowest-bounds (eventCount (s .plan)) 16 (λ e. isHeld (fateOf s e) && barred s e) (inSet d) held-barred
 
-  -- where nothing is held there is no turn to make
+  -- where the view shows nothing held there is no turn to make
   module _ (e : ℕ) (same : e ≡ orSixteen (lowest 16 (inSet (v .held)))) (q : e ≡ 16) where
     unheld : (x : ℕ) → x < eventCount (s .plan) → isHeld (fateOf s x) ≡ false
     unheld x lt = elim (decLt x 16) [
@@ -152,28 +145,8 @@ module _ (s : State) (v : View) (w : Shows (s .plan) (fateOf s) v) where
       | no ge ↦ held-past x (omega arith)
     ]
 
-    none-refused : toRefuse s ≡ none
-    unfolding toRefuse lowest
-    none-refused = first-nowhere (eventCount (s .plan)) 0 _ (λ x lo hi. rw (unheld x (omega arith)))
-
-    none-done : toDo s ≡ none
-    unfolding toDo
-    none-done = first-nowhere (eventCount (s .plan)) 0 _ (λ x lo hi. rw (unheld x (omega arith)))
-
     pub none-turned : settleOnce s ≡ none
-    unfolding settleOnce
-    none-turned = rw (none-refused, none-done, settleOnce)
-
--- an event that is to be refused in winding up: it is held
-module _ (s : State) (e : ℕ) where
-  abbrev pub holding : Option ℕ
-  holding = when (isHeld (fateOf s e)) (some e)
-
-  pub holding-some : isHeld (fateOf s e) ≡ true → holding ≡ some e
-  holding-some h = rw h
-
-  pub holding-none : isHeld (fateOf s e) ≡ false → holding ≡ none
-  holding-none h = rw h
+    none-turned = unheld-turned s unheld
 
 -- an event whose chosen order is to be done: it is held and has one
 module _ (s : State) (e : ℕ) where
@@ -302,8 +275,40 @@ module _ (s : State) where
     refuse-more zero lt t = absurd (omega arith)
     refuse-more (suc n) lt t = held-next (lowestHeld s) refl n (r .state) (turned-some s _ r same t) ∙ rw sub-one
 
+-- the lowest held event, by a view
+module _ (s : State) (v : View) (w : Shows (s .plan) (fateOf s) v) where
+  held-same : (x : ℕ) → (ltb x (eventCount (s .plan)) && isHeld (fateOf s x)) ≡ (ltb x 16 && inSet (v .held) x)
+  held-same x = elim (decLt x 16) [
+    | yes lt ↦ rw (lt-ltb x 16 lt) (sym (w .held x))
+    | no ge ↦ rw (le-ltb x 16 (omega arith), ap isHeld (fate-past s x (omega arith))) (and-false (ltb x (eventCount (s .plan))))
+  ]
+
+  low-held : lowestHeld s ≡ lowest 16 (inSet (v .held))
+  low-held = lowest-bounds (eventCount (s .plan)) 16 (λ e. isHeld (fateOf s e)) (inSet (v .held)) held-same
+
+  module _ (e : ℕ) (same : e ≡ orSixteen (lowest 16 (inSet (v .held)))) where
+    pub refuse-made : e < 16
+        → (t u : State)
+        → t ≡ settleAs Refused s e
+        → u ≡ settle t
+        → record { moved = true; state = u } ≡ turnOf s (Option·map (refusedNext s) (lowestHeld s))
+    unfolding turnOf
+    refuse-made lt t u first then =
+        rw (low-held, lowest-below (inSet (v .held)) e same lt) (ap {B = Turned} (λ (x : State). record { moved = true; state = x }) (then ∙ ap settle first))
+
+    pub refuse-rests : (e < 16 → ⊥) → record { moved = false; state = s } ≡ turnOf s (Option·map (refusedNext s) (lowestHeld s))
+    unfolding turnOf
+    refuse-rests n = rw (low-held, lowest-past (inSet (v .held)) e same n)
+
 -- no event may be refused any more
 pub refuse-end : (n : ℕ) (s : State) → n ≤ 0 → refuseHeld n s ≡ s
 unfolding refuseHeld
 refuse-end zero s le = refl
 refuse-end (suc n) s le = absurd (omega arith)
+
+-- winding up where nothing is held
+pub finish-unheld : (s : State) → ((x : ℕ) → x < eventCount (s .plan) → isHeld (fateOf s x) ≡ false) → finish s ≡ s
+unfolding finish settle lowest
+finish-unheld s unheld =
+    ap (refuseHeld 16) (up-rest s 16 (unheld-turned s unheld))
+    ∙ refuse-none 15 s (first-nowhere (eventCount (s .plan)) 0 _ (λ x lo hi. rw (unheld x (omega arith))))

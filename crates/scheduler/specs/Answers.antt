@@ -1,6 +1,7 @@
 -- A call: when it is turned down, and what it answers.
 use Rattle.scheduler.specs.Prelude.{ℕ, Bool, true, false, not, _&&_, List, [], _∷_, Option, none, some, leb, State, Call, Submit, Close, Finish, CallFault, Unknown, AlreadyClosed, NotClosed, Incoherent, Is, Made, TurnedDown, Reply}
 use Rattle.plan.specs.Base.{anyBelow}
+use Rattle.plan.specs.Fates.{isOpen, isHeld}
 use Rattle.plan.specs.Plans.{eventCount, hasEvent}
 use Rattle.plan.specs.Faults.{firstFault}
 use Rattle.scheduler.specs.State.{fateOf, closedAt}
@@ -29,6 +30,13 @@ unfoldable pub accept : State → Call → Reply
 accept s (Submit e) = let t = submit s e in record { answer = Is (fateOf t e); state = t }
 accept s (Close k) = record { answer = Made; state = closeStep s k }
 accept s Finish = record { answer = Made; state = finish s }
+
+-- a call that, where it is taken, leaves the state as it is: a hand-in of an event that is not open, a winding up where
+-- nothing is held (9.2, 9.8)
+unfoldable pub idle : State → Call → Bool
+idle s (Submit e) = not (isOpen (fateOf s e))
+idle s (Close k) = false
+idle s Finish = not (anyBelow (eventCount (s .plan)) (λ e. isHeld (fateOf s e)))
 
 -- a call turned down leaves the state alone (10.1)
 abbrev pub turnedDownBy : CallFault → State → Reply

@@ -3,36 +3,28 @@
 use super::reply::Reply;
 use super::settle::Turned;
 use super::state::State;
+use members::rule::does_forbid;
+use members::rule::does_owe;
+use members::set::lowest_of;
 use plan::answer::Answer;
 use plan::answer::CallFault;
 use plan::calls::Call;
-use plan::event::event_in;
 use plan::event::is_delayable;
 use plan::event::is_rejectable;
 use plan::fate::Fate;
-use plan::fate::fate_in;
 use plan::fate::is_held;
 use plan::fate::is_open;
-use plan::mark::is_closed_in;
-use plan::mark::mark_in;
 use plan::plan::has_event;
-use plan::rule::does_bar;
-use plan::rule::does_owe;
-use plan::rule::makes_wait;
-use plan::rule::rule_in;
 ghost use mathlib.Core.Path.{_≡_};
-ghost use mathlib.Core.Bool.{_&&_, _||_};
 ghost use mathlib.Core.Option.{Option·map};
 ghost use Rattle.scheduler.specs.Prelude.{Refused, Submit, Close, Finish};
 ghost use Rattle.plan.specs.Base.{anyBelow, lowest};
 ghost use Rattle.plan.specs.Fates.{isHeld};
-ghost use Rattle.plan.specs.Plans.{eventCount, ruleAt};
-ghost use Rattle.plan.specs.Rules.{forbids, owes};
+ghost use Rattle.plan.specs.Plans.{eventCount};
 ghost use Rattle.scheduler.specs.State.{fateOf, settleAs};
-ghost use Rattle.scheduler.specs.Rules.{stands};
 ghost use Rattle.scheduler.specs.Calls.{settle, breakIf, doAlone, decide, submit, lapse, closeStep, refuseHeld, finish};
-ghost use Rattle.scheduler.specs.Answers.{unclosedAt, turnsDown, accept, turnedDownBy, call};
-ghost use Rattle.scheduler.specs.Internal.Turned.{turnOf, lapseIf};
+ghost use Rattle.scheduler.specs.Answers.{unclosedAt, turnsDown, idle, accept, turnedDownBy, call};
+ghost use Rattle.scheduler.specs.Internal.Turned.{turnOf};
 
 impl State {
     // Hand in an event; answered with the fate it has then.
@@ -48,7 +40,11 @@ impl State {
         }
         let state = self.after_submit(event);
         let standings = state.standings;
-        let fate = fate_in(standings, event);
+        let mut fate = Fate::Open;
+        if event < 16 {
+            let standing = standings[event as usize];
+            fate = standing.fate;
+        }
         Reply {
             answer: Answer::Is(fate),
             state,
@@ -67,8 +63,10 @@ impl State {
         if !has_event(plan, step) {
             return self.turn_down(CallFault::Unknown);
         }
-        if is_closed_in(closed, step) {
-            return self.turn_down(CallFault::AlreadyClosed);
+        if step < 8 {
+            if closed[step as usize] {
+                return self.turn_down(CallFault::AlreadyClosed);
+            }
         }
         Reply {
             answer: Answer::Made,
@@ -112,8 +110,32 @@ impl State {
         let closed = self.closed;
         match made {
             Call::Submit(event) => plan.event_count <= event,
-            Call::Close(step) => !has_event(plan, step) | is_closed_in(closed, step),
+            Call::Close(step) => {
+                if step < 8 {
+                    return !has_event(plan, step) | closed[step as usize];
+                }
+                !has_event(plan, step)
+            }
             Call::Finish => self.has_unclosed(),
+        }
+    }
+
+    // Would the call, where it is taken, leave the state as it is? Then a list need not make it.
+    pub fn is_idle(self, made: Call) -> bool
+        ensures { λ r. ⌜ r ≡ idle self made ⌝ }
+    {
+        let standings = self.standings;
+        match made {
+            Call::Submit(event) => {
+                if event < 16 {
+                    let standing = standings[event as usize];
+                    let fate = standing.fate;
+                    return !is_open(fate);
+                }
+                false
+            }
+            Call::Close(step) => false,
+            Call::Finish => !self.has_held(),
         }
     }
 
@@ -126,23 +148,6 @@ impl State {
             Call::Close(step) => self.after_close(step),
             Call::Finish => self.after_finish(),
         }
-    }
-
-    // Does rule `i`, not recorded as broken, forbid doing the event here, or owe in the state after it?
-    fn does_strain(self, after: State, event: u8, i: u8) -> bool
-        ensures { λ r. ⌜ r ≡ (stands self i && (forbids (self .plan) (fateOf self) (ruleAt (self .plan) i) event || owes (self .plan) (fateOf after) (ruleAt (self .plan) i))) ⌝ }
-    {
-        let plan = self.plan;
-        let rules = plan.rules;
-        let events = plan.events;
-        let standings = self.standings;
-        let broken = self.broken;
-        let next = after.standings;
-        let rule = rule_in(rules, i);
-        !mark_in(broken, i)
-            & (does_bar(standings, rule, event)
-                | makes_wait(events, standings, rule, event)
-                | does_owe(next, rule))
     }
 
     // Records the rule as broken where told to.
@@ -159,13 +164,23 @@ impl State {
     fn do_alone(self, event: u8) -> State
         ensures { λ r. ⌜ r ≡ doAlone self event ⌝ }
     {
+        let before = self.view();
         let plan = self.plan;
         let n = plan.rule_count;
-        let after = self.settle_as(Fate::Done, event);
-        let mut next = after;
+        let rules = plan.rules;
+        let broken = self.broken;
+        let mut next = self.settle_as(Fate::Done, event);
+        let after = next.view();
         let mut i: u8 = 0;
         while i < n {
-            next = next.break_if(self.does_strain(after, event, i), i);
+            if i < 16 {
+                if !broken[i as usize] {
+                    let line = rules[i as usize];
+                    let rule = line.rule;
+                    let is = does_forbid(rule, before, event) | does_owe(rule, after);
+                    next = next.break_if(is, i);
+                }
+            }
             i += 1;
         }
         next
@@ -181,8 +196,12 @@ impl State {
         if found.ok {
             return self.do_order(found);
         }
-        let found_event = event_in(events, event);
-        if is_rejectable(found_event.attributes) {
+        let mut attributes: u8 = 0;
+        if event < 16 {
+            let declared = events[event as usize];
+            attributes = declared.attributes;
+        }
+        if is_rejectable(attributes) {
             return self.settle_as(Fate::Refused, event);
         }
         self.do_alone(event)
@@ -195,42 +214,45 @@ impl State {
         let plan = self.plan;
         let events = plan.events;
         let standings = self.standings;
-        if !is_open(fate_in(standings, event)) {
-            return self;
+        let mut attributes: u8 = 0;
+        if event < 16 {
+            let standing = standings[event as usize];
+            let fate = standing.fate;
+            if !is_open(fate) {
+                return self;
+            }
+            let declared = events[event as usize];
+            attributes = declared.attributes;
         }
         let held = self.hold(event);
-        let found = event_in(events, event);
-        if is_delayable(found.attributes) {
+        if is_delayable(attributes) {
             return held.settle();
         }
         let decided = held.decide(event);
         decided.settle()
     }
 
-    // The event lapses if it is open and of the step.
-    fn lapse_one(self, event: u8, step: u8) -> State
-        ensures { λ r. ⌜ r ≡ lapseIf self event step ⌝ }
-    {
-        let plan = self.plan;
-        let events = plan.events;
-        let standings = self.standings;
-        let found = event_in(events, event);
-        if is_open(fate_in(standings, event)) & (found.step == step) {
-            return self.settle_as(Fate::Lapsed, event);
-        }
-        self
-    }
-
-    // The step's open events lapse, lowest first.
+    // The step's open events lapse, lowest first. Past the places stand blanks: open, and of step 0.
     fn lapse_step(self, step: u8) -> State
         ensures { λ r. ⌜ r ≡ lapse (eventCount (self .plan)) 0 self step ⌝ }
     {
         let plan = self.plan;
         let n = plan.event_count;
+        let events = plan.events;
+        let standings = self.standings;
         let mut next = self;
         let mut e: u8 = 0;
         while e < n {
-            next = next.lapse_one(e, step);
+            let mut is = 0 == step;
+            if e < 16 {
+                let declared = events[e as usize];
+                let standing = standings[e as usize];
+                let fate = standing.fate;
+                is = is_open(fate) & (declared.step == step);
+            }
+            if is {
+                next = next.settle_as(Fate::Lapsed, e);
+            }
             e += 1;
         }
         next
@@ -249,19 +271,14 @@ impl State {
     fn refuse_lowest(self) -> Turned
         ensures { λ r. ⌜ r ≡ turnOf self (Option·map (λ e. settle (settleAs Refused self e)) (lowest (eventCount (self .plan)) (λ e. isHeld (fateOf self e)))) ⌝ }
     {
-        let plan = self.plan;
-        let standings = self.standings;
-        let n = plan.event_count;
-        let mut e: u8 = 0;
-        while e < n {
-            if is_held(fate_in(standings, e)) {
-                let refused = self.settle_as(Fate::Refused, e);
-                return Turned {
-                    moved: true,
-                    state: refused.settle(),
-                };
-            }
-            e += 1;
+        let view = self.view();
+        let e = lowest_of(view.held);
+        if e < 16 {
+            let refused = self.settle_as(Fate::Refused, e);
+            return Turned {
+                moved: true,
+                state: refused.settle(),
+            };
         }
         Turned {
             moved: false,
@@ -295,18 +312,48 @@ impl State {
         settled.refuse_held()
     }
 
-    // Has a step an event and is not closed?
+    // Has a step an event and is not closed? Past the places stand blanks, of step 0.
     fn has_unclosed(self) -> bool
         ensures { λ r. ⌜ r ≡ anyBelow 8 (unclosedAt self) ⌝ }
     {
         let plan = self.plan;
+        let n = plan.event_count;
+        let events = plan.events;
         let closed = self.closed;
-        let mut step: u8 = 0;
-        while step < 8 {
-            if has_event(plan, step) & !is_closed_in(closed, step) {
-                return true;
+        let mut e: u8 = 0;
+        while e < n {
+            let mut step: u8 = 0;
+            if e < 16 {
+                let declared = events[e as usize];
+                step = declared.step;
             }
-            step += 1;
+            if step < 8 {
+                if !closed[step as usize] {
+                    return true;
+                }
+            }
+            e += 1;
+        }
+        false
+    }
+
+    // Is an event held?
+    fn has_held(self) -> bool
+        ensures { λ r. ⌜ r ≡ anyBelow (eventCount (self .plan)) (λ e. isHeld (fateOf self e)) ⌝ }
+    {
+        let plan = self.plan;
+        let n = plan.event_count;
+        let standings = self.standings;
+        let mut e: u8 = 0;
+        while e < n {
+            if e < 16 {
+                let standing = standings[e as usize];
+                let fate = standing.fate;
+                if is_held(fate) {
+                    return true;
+                }
+            }
+            e += 1;
         }
         false
     }

@@ -1,9 +1,12 @@
 -- `broken_count` meets its contract.
 use Prim.Native.Nat.{_-_}
 use native.Mathlib.Omega.{arith}
-use borrow.Author.Needs.{needs}
 use mathlib.Core.Bool.{false}
+use mathlib.Core.Logic.{inl, inr}
+use mathlib.Core.Path.{_≡_, sym, _∙_}
+use borrow.Author.Needs.{needs}
 use Rattle.plan.specs.Base.{readAt}
+use Rattle.plan.proofs.Arrays.{read-in, read-past}
 use Rattle.plan.proofs.Loops.{Counted, count-start, count-next, count-small, count-all}
 use Rattle.readers.proofs.broken_count.Statement.{statement}
 use Rattle.readers.proofs.broken_count.Tie as tie
@@ -17,15 +20,29 @@ abbrev μ-loop : tie.MeasureT-loop
 loop-holds : tie.Need-loop-holds Inv-loop μ-loop
 loop-holds c = count-start _ _
 
-mark-in-requires : tie.Need-mark-in-requires Inv-loop μ-loop
-mark-in-requires c κs = search needs
+cast-is : tie.Need-cast-is Inv-loop μ-loop
+cast-is c = search needs
+
+array-read-is : tie.Need-array-read-is Inv-loop μ-loop
+array-read-is c = search needs
+
+-- what the code is told of rule i
+told : (c : tie.Joined1 Inv-loop μ-loop) → c .if1 .is ≡ readAt 16 (c .before .before .before .before .before .args .state .broken) (c .before .before .loop .i) false
+told c =
+    let broken = c .before .before .before .before .before .args .state .broken in
+    let i = c .before .before .loop .i in
+    elim (c .if1 .came) [
+      | inl w ↦ w .1 ∙ sym (read-in 16 broken i false (w .0 .taken))
+      | inr w ↦ w .1 ∙ sym (read-past 16 broken i false (w .0 .left))
+    ]
 
 cast-count : tie.Need-cast-count Inv-loop μ-loop
 cast-count c = search needs
 
 add-count : tie.Need-add-count Inv-loop μ-loop
 add-count c =
-    let h = count-small _ _ (c .before .before .loop .count) (c .before .before .loop .i) (c .mark-in .result) (c .before .before .loop .inv) (c .before .loop-test .taken) (c .mark-in .ensures) (omega arith) in
+    let at = c .before .before .loop in
+    let h = count-small _ _ (at .count) (at .i) (c .if1 .is) (at .inv) (c .before .loop-test .taken) (told c) (omega arith) in
     omega arith
 
 add-i : tie.Need-add-i Inv-loop μ-loop
@@ -36,13 +53,8 @@ loop-less c = omega arith
 
 loop-again : tie.Need-loop-again Inv-loop μ-loop
 loop-again c =
-    count-next _ _
-    (c .before .before .loop .count)
-    (c .before .before .loop .i)
-    (c .mark-in .result)
-    (c .before .before .loop .inv)
-    (c .before .loop-test .taken)
-    (c .mark-in .ensures)
+    let at = c .before .before .loop in
+    count-next _ _ (at .count) (at .i) (c .if1 .is) (at .inv) (c .before .loop-test .taken) (told c)
 
 returns : tie.Need-returns Inv-loop μ-loop
 returns c = count-all _ _ _ (c .before .loop .i) (c .before .loop .inv) (c .loop-test .left)
@@ -54,7 +66,8 @@ broken-count-spec =
     Inv-loop
     μ-loop
     loop-holds
-    mark-in-requires
+    cast-is
+    array-read-is
     cast-count
     add-count
     add-i

@@ -1,16 +1,18 @@
 -- `held_count` meets its contract.
 use Prim.Native.Nat.{_-_}
 use native.Mathlib.Omega.{arith}
-use mathlib.Core.Path.{_∙_, ap}
+use mathlib.Core.Logic.{inl, inr}
+use mathlib.Core.Path.{_≡_, sym, _∙_, ap}
 use borrow.Author.Needs.{needs}
-use Rattle.plan.specs.Base.{readAt}
-use Rattle.plan.specs.Fates.{blankStanding, isHeld}
+use Rattle.plan.specs.Fates.{blankStanding, isHeld, fatesOf}
+use Rattle.plan.specs.declared.fate.Standing.{Standing}
+use Rattle.plan.proofs.Arrays.{read-in, read-past}
 use Rattle.plan.proofs.Loops.{Counted, count-start, count-next, count-small, count-all}
 use Rattle.readers.proofs.held_count.Statement.{statement}
 use Rattle.readers.proofs.held_count.Tie as tie
 
 abbrev Inv-loop : tie.InvT-loop
-Inv-loop standings n count₀ i₀ count i = Counted (λ e. isHeld (readAt 16 standings e blankStanding .fate)) n count i
+Inv-loop standings n count₀ i₀ count i = Counted (λ e. isHeld (fatesOf standings e)) n count i
 
 abbrev μ-loop : tie.MeasureT-loop
 μ-loop standings n count₀ i₀ count i = n - i
@@ -18,18 +20,32 @@ abbrev μ-loop : tie.MeasureT-loop
 loop-holds : tie.Need-loop-holds Inv-loop μ-loop
 loop-holds c = count-start _ _
 
-fate-in-requires : tie.Need-fate-in-requires Inv-loop μ-loop
-fate-in-requires c κs = search needs
+cast-standing : tie.Need-cast-standing Inv-loop μ-loop
+cast-standing c = search needs
+
+array-copy-out-standing : tie.Need-array-copy-out-standing Inv-loop μ-loop
+array-copy-out-standing c = search needs
 
 is-held-requires : tie.Need-is-held-requires Inv-loop μ-loop
 is-held-requires c κs = search needs
+
+-- what the code is told of event i
+told : (c : tie.Joined1 Inv-loop μ-loop) → c .if1 .is ≡ isHeld (fatesOf (c .before .before .before .before .before .args .state .standings) (c .before .before .loop .i))
+told c =
+    let standings = c .before .before .before .before .before .args .state .standings in
+    let i = c .before .before .loop .i in
+    elim (c .if1 .came) [
+      | inl w ↦ w .3 ∙ w .2 .ensures ∙ ap (λ (v : Standing). isHeld (v .fate)) (sym (read-in 16 standings i blankStanding (w .0 .taken)))
+      | inr w ↦ w .1 ∙ ap (λ (v : Standing). isHeld (v .fate)) (sym (read-past 16 standings i blankStanding (w .0 .left)))
+    ]
 
 cast-count : tie.Need-cast-count Inv-loop μ-loop
 cast-count c = search needs
 
 add-count : tie.Need-add-count Inv-loop μ-loop
 add-count c =
-    let h = count-small _ _ (c .before .before .before .loop .count) (c .before .before .before .loop .i) (c .is-held .result) (c .before .before .before .loop .inv) (c .before .before .loop-test .taken) (c .is-held .ensures ∙ ap isHeld (c .before .fate-in .ensures)) (omega arith) in
+    let at = c .before .before .loop in
+    let h = count-small _ _ (at .count) (at .i) (c .if1 .is) (at .inv) (c .before .loop-test .taken) (told c) (omega arith) in
     omega arith
 
 add-i : tie.Need-add-i Inv-loop μ-loop
@@ -40,13 +56,8 @@ loop-less c = omega arith
 
 loop-again : tie.Need-loop-again Inv-loop μ-loop
 loop-again c =
-    count-next _ _
-    (c .before .before .before .loop .count)
-    (c .before .before .before .loop .i)
-    (c .is-held .result)
-    (c .before .before .before .loop .inv)
-    (c .before .before .loop-test .taken)
-    (c .is-held .ensures ∙ ap isHeld (c .before .fate-in .ensures))
+    let at = c .before .before .loop in
+    count-next _ _ (at .count) (at .i) (c .if1 .is) (at .inv) (c .before .loop-test .taken) (told c)
 
 returns : tie.Need-returns Inv-loop μ-loop
 returns c = count-all _ _ _ (c .before .loop .i) (c .before .loop .inv) (c .loop-test .left)
@@ -58,7 +69,8 @@ held-count-spec =
     Inv-loop
     μ-loop
     loop-holds
-    fate-in-requires
+    cast-standing
+    array-copy-out-standing
     is-held-requires
     cast-count
     add-count

@@ -2,11 +2,12 @@
 use Prim.Native.Nat.{_-_}
 use native.Mathlib.Omega.{arith}
 use borrow.Author.Needs.{needs}
+use borrow.Author.Tests.{not-false}
 use mathlib.Core.Logic.{inl, inr}
 use mathlib.Core.Path.{sym, _∙_}
 use lib.ListN.{length}
 use Rattle.scheduler.proofs.Sizes.{sized}
-use Rattle.lists.proofs.Running.{Underway, begun, inside-listed, less, again-refused, again-taken, ended, bad-ended, listed-room, bad-room}
+use Rattle.lists.proofs.Running.{Underway, begun, inside-listed, less, again-refused, again-taken, again-idle, ended, bad-ended, listed-room, bad-room}
 use Rattle.lists.proofs.run.take_calls.Statement.{statement}
 use Rattle.lists.proofs.run.take_calls.Tie as tie
 
@@ -33,6 +34,9 @@ add-refused c =
     let r = c .before .before .before in
     let a = r .before .before in
     omega (arith, listed-room (a .before .loop .inv) _ (a .call-at .ensures) _ (r .read .given .1))
+
+is-idle-requires : tie.Need-is-idle-requires Inv-loop μ-loop
+is-idle-requires c κs = tt
 
 after-call-requires : tie.Need-after-call-requires Inv-loop μ-loop
 after-call-requires c κs = tt
@@ -65,7 +69,10 @@ loop-again c =
     let test = sym (d .turns-down .ensures) in
     elim (c .before .if1 .came) [
       | inl x ↦ again-refused u _ is _ h _ size _ _ (test ∙ x .0 .taken) (x .1) (x .2)
-      | inr x ↦ again-taken u _ is _ h _ size _ _ (test ∙ x .0 .left) (x .2 ∙ x .1 .ensures) (x .3)
+      | inr y ↦ elim y [
+        | inl x ↦ again-taken u _ is _ h _ size _ _ (test ∙ x .0 .left) (x .4 ∙ x .3 .ensures) (x .5)
+        | inr x ↦ again-idle u _ is _ h _ size _ _ (test ∙ x .0 .left) (sym (x .1 .ensures) ∙ not-false _ (x .2 .left)) (x .3) (x .4)
+      ]
     ]
 
 enum-told : tie.Need-enum-told Inv-loop μ-loop
@@ -79,8 +86,8 @@ returns c =
 enum-told-2 : tie.Need-enum-told-2 Inv-loop μ-loop
 enum-told-2 c = search needs
 
-add-t11 : tie.Need-add-t11 Inv-loop μ-loop
-add-t11 c =
+add-t13 : tie.Need-add-t13 Inv-loop μ-loop
+add-t13 c =
     let a = c .before .before in
     omega (arith, bad-room (a .before .loop .inv) _ (a .call-at .ensures) (c .enum-told2 .given .1))
 
@@ -100,6 +107,7 @@ take-calls-spec =
     enum-known-read
     turns-down-requires
     add-refused
+    is-idle-requires
     after-call-requires
     call-size-requires
     add-at
@@ -108,5 +116,5 @@ take-calls-spec =
     enum-told
     returns
     enum-told-2
-    add-t11
+    add-t13
     returns-2)

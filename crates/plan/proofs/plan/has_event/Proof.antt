@@ -1,10 +1,13 @@
 -- `has_event` meets its contract. The loop: no event below e is of the step.
 use Prim.Native.Nat.{_≤_, _-_}
 use native.Mathlib.Omega.{arith}
+use borrow.Author.Needs.{needs}
 use mathlib.Core.Bool.{false}
-use mathlib.Core.Path.{_≡_, refl}
+use mathlib.Core.Logic.{inl, inr}
+use mathlib.Core.Path.{_≡_, refl, sym}
 use Rattle.plan.specs.Base.{anyBelow}
-use Rattle.plan.specs.Plans.{hasEvent}
+use Rattle.plan.specs.Plans.{blankEvent, hasEvent}
+use Rattle.plan.proofs.Arrays.{read-in, read-past}
 use Rattle.plan.proofs.Loops.{none-zero, none-next, some-hit, none-all}
 use Rattle.plan.proofs.Steps.{stepIn, step-hit, step-miss}
 use Rattle.plan.proofs.plan.has_event.Statement.{statement}
@@ -19,15 +22,32 @@ abbrev μ-loop : tie.MeasureT-loop
 loop-holds : tie.Need-loop-holds Inv-loop μ-loop
 loop-holds c = (omega arith, none-zero _)
 
-event-in-requires : tie.Need-event-in-requires Inv-loop μ-loop
-event-in-requires c κs = tt
+cast-event : tie.Need-cast-event Inv-loop μ-loop
+cast-event c = search needs
+
+mul-event : tie.Need-mul-event Inv-loop μ-loop
+mul-event c = search needs
+
+array-copy-out-event : tie.Need-array-copy-out-event Inv-loop μ-loop
+array-copy-out-event c = search needs
 
 returns : tie.Need-returns Inv-loop μ-loop
 unfolding hasEvent
 returns c =
-    let a = c .before .before .before .before .before .before .args in
-    let e = c .before .before .before .before .loop .e in
-    some-hit _ (stepIn (a .plan .events) (a .step)) _ (λ _. refl) e (c .before .before .before .loop-test .taken) (step-hit (a .plan .events) (a .step) e _ (c .before .before .event-in .ensures) (c .if1 .taken))
+    let test = c .before .before .before .before in
+    let at = test .before .loop in
+    let a = test .before .before .before .args in
+    let read = read-in 16 (a .plan .events) (at .e) blankEvent (c .before .before .before .if1 .taken) in
+    some-hit _ (stepIn (a .plan .events) (a .step)) _ (λ _. refl) (at .e) (test .loop-test .taken) (step-hit (a .plan .events) (a .step) (at .e) _ (sym read) (c .if2 .taken))
+
+returns-2 : tie.Need-returns-2 Inv-loop μ-loop
+unfolding hasEvent
+returns-2 c =
+    let test = c .before .before in
+    let at = test .before .loop in
+    let a = test .before .before .before .args in
+    let read = read-past 16 (a .plan .events) (at .e) blankEvent (c .before .if1 .left) in
+    some-hit _ (stepIn (a .plan .events) (a .step)) _ (λ _. refl) (at .e) (test .loop-test .taken) (step-hit (a .plan .events) (a .step) (at .e) _ (sym read) (sym (c .if3 .taken)))
 
 add-e : tie.Need-add-e Inv-loop μ-loop
 add-e c = omega arith
@@ -37,13 +57,19 @@ loop-less c = omega arith
 
 loop-again : tie.Need-loop-again Inv-loop μ-loop
 loop-again c =
-    let a = c .before .before .before .before .before .before .args in
-    let e = c .before .before .before .before .loop .e in
-    (omega arith, none-next _ _ (c .before .before .before .before .loop .inv .1) (step-miss (a .plan .events) (a .step) e _ (c .before .before .event-in .ensures) (c .if1 .left)))
+    let test = c .before in
+    let at = test .before .loop in
+    let a = test .before .before .before .args in (
+      omega arith,
+      none-next _ _ (at .inv .1) (elim (c .if1 .came) [
+        | inl w ↦ step-miss (a .plan .events) (a .step) (at .e) _ (sym (read-in 16 (a .plan .events) (at .e) blankEvent (w .0 .taken))) (w .3 .left)
+        | inr w ↦ step-miss (a .plan .events) (a .step) (at .e) _ (sym (read-past 16 (a .plan .events) (at .e) blankEvent (w .0 .left))) (λ same. w .1 .left (sym same))
+      ]),
+    )
 
-returns-2 : tie.Need-returns-2 Inv-loop μ-loop
+returns-3 : tie.Need-returns-3 Inv-loop μ-loop
 unfolding hasEvent
-returns-2 c = none-all _ _ _ (λ _. refl) _ (c .before .loop .inv .0) (c .loop-test .left) (c .before .loop .inv .1)
+returns-3 c = none-all _ _ _ (λ _. refl) _ (c .before .loop .inv .0) (c .loop-test .left) (c .before .loop .inv .1)
 
 pub has-event-spec : {M : Type 1} → statement M
 has-event-spec =
@@ -52,9 +78,12 @@ has-event-spec =
     Inv-loop
     μ-loop
     loop-holds
-    event-in-requires
+    cast-event
+    mul-event
+    array-copy-out-event
     returns
+    returns-2
     add-e
     loop-less
     loop-again
-    returns-2)
+    returns-3)

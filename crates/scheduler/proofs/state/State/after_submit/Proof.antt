@@ -1,28 +1,37 @@
 -- `State::after_submit` meets its contract.
-use mathlib.Core.Path.{_∙_, ap}
-use Rattle.plan.specs.Fates.{isOpen}
-use Rattle.plan.specs.Plans.{holdsBit}
-use Rattle.scheduler.specs.Prelude.{Event}
-use Rattle.scheduler.proofs.CallSteps.{hand-same, hand-delayed, hand-decided}
 use borrow.Author.Needs.{needs}
+use borrow.Author.Tests.{not-true, not-false}
+use mathlib.Core.Bool.{true}
+use mathlib.Core.Logic.{inl, inr}
+use mathlib.Core.Path.{_≡_, refl, sym, _∙_}
+use Rattle.plan.specs.Fates.{isOpen}
+use Rattle.plan.specs.Plans.{delayable}
+use Rattle.plan.proofs.RuleReads.{bit-in, bit-past}
+use Rattle.scheduler.specs.State.{fateOf}
+use Rattle.scheduler.proofs.Branches.{submit-same}
+use Rattle.scheduler.proofs.CallSteps.{fate-in, fate-blank, hand-delayed, hand-decided}
 use Rattle.scheduler.proofs.state.State.after_submit.Statement.{statement}
 use Rattle.scheduler.proofs.state.State.after_submit.Tie as tie
 
-fate-in-requires : tie.Need-fate-in-requires
-fate-in-requires c κs = search needs
+array-copy-out-standing : tie.Need-array-copy-out-standing
+array-copy-out-standing c = search needs
 
 is-open-requires : tie.Need-is-open-requires
 is-open-requires c κs = search needs
 
 returns : tie.Need-returns
 returns c =
-    hand-same _ _ _ (c .before .is-open .ensures ∙ ap isOpen (c .before .before .fate-in .ensures)) (c .if1 .taken)
+    let a = c .before .before .before .before .before .before .before .args in
+    sym (submit-same (a .self) (a .event) (sym (fate-in (a .self) (a .event) _ (c .before .before .before .if1 .taken) (c .before .is-open .ensures)) ∙ not-true _ (c .if2 .taken)))
+
+mul-declared : tie.Need-mul-declared
+mul-declared c = search needs
+
+array-copy-out-declared : tie.Need-array-copy-out-declared
+array-copy-out-declared c = search needs
 
 hold-requires : tie.Need-hold-requires
 hold-requires c κs = search needs
-
-event-in-requires : tie.Need-event-in-requires
-event-in-requires c κs = search needs
 
 is-delayable-requires : tie.Need-is-delayable-requires
 is-delayable-requires c κs = search needs
@@ -32,14 +41,18 @@ settle-requires c κs = search needs
 
 returns-2 : tie.Need-returns-2
 returns-2 c =
-    hand-delayed _ _ _
-    (c .before .before .before .before .before .before .is-open .ensures ∙ ap isOpen (c .before .before .before .before .before .before .before .fate-in .ensures))
-    _ _ _
-    (c .before .before .before .before .before .if1 .left)
-    (c .before .before .before .before .hold .ensures)
-    (c .before .before .is-delayable .ensures ∙ ap (λ (v : Event). holdsBit 4 (v .attributes)) (c .before .before .before .event-in .ensures))
-    (c .before .if2 .taken)
-    (c .settle .ensures)
+    let delay = c .before .before .is-delayable in
+    let join = c .before .before .before .before in
+    let a = join .before .before .before .before .args in
+    let fresh : isOpen (fateOf (a .self) (a .event)) ≡ true = elim (join .if1 .came) [
+      | inl w ↦ sym (fate-in (a .self) (a .event) _ (w .0 .taken) (w .2 .ensures)) ∙ not-false _ (w .3 .left)
+      | inr w ↦ sym (fate-blank (a .self) (a .event) (w .0 .left))
+    ] in
+    let late : delay .result ≡ delayable (a .self .plan) (a .event) = elim (join .if1 .came) [
+      | inl w ↦ bit-in (a .self .plan) _ refl 4 (a .event) _ _ (delay .ensures) (w .0 .taken) (w .5)
+      | inr w ↦ bit-past (a .self .plan) _ refl 4 (a .event) _ _ (delay .ensures) (w .0 .left) (w .1)
+    ] in
+    hand-delayed (a .self) (a .event) fresh _ _ _ (c .before .before .before .hold .ensures) late (c .before .if3 .taken) (c .settle .ensures)
 
 decide-requires : tie.Need-decide-requires
 decide-requires c κs = search needs
@@ -49,26 +62,29 @@ settle-requires-2 c κs = search needs
 
 returns-3 : tie.Need-returns-3
 returns-3 c =
-    hand-decided _ _ _
-    (c .before .before .before .before .before .before .before .is-open .ensures ∙ ap isOpen (c .before .before .before .before .before .before .before .before .fate-in .ensures))
-    _ _ _
-    (c .before .before .before .before .before .before .if1 .left)
-    (c .before .before .before .before .before .hold .ensures)
-    (c .before .before .before .is-delayable .ensures ∙ ap (λ (v : Event). holdsBit 4 (v .attributes)) (c .before .before .before .before .event-in .ensures))
-    _
-    (c .before .before .if2 .left)
-    (c .before .decide .ensures)
-    (c .settle2 .ensures)
+    let delay = c .before .before .before .is-delayable in
+    let join = c .before .before .before .before .before in
+    let a = join .before .before .before .before .args in
+    let fresh : isOpen (fateOf (a .self) (a .event)) ≡ true = elim (join .if1 .came) [
+      | inl w ↦ sym (fate-in (a .self) (a .event) _ (w .0 .taken) (w .2 .ensures)) ∙ not-false _ (w .3 .left)
+      | inr w ↦ sym (fate-blank (a .self) (a .event) (w .0 .left))
+    ] in
+    let late : delay .result ≡ delayable (a .self .plan) (a .event) = elim (join .if1 .came) [
+      | inl w ↦ bit-in (a .self .plan) _ refl 4 (a .event) _ _ (delay .ensures) (w .0 .taken) (w .5)
+      | inr w ↦ bit-past (a .self .plan) _ refl 4 (a .event) _ _ (delay .ensures) (w .0 .left) (w .1)
+    ] in
+    hand-decided (a .self) (a .event) fresh _ _ _ (c .before .before .before .before .hold .ensures) late _ (c .before .before .if3 .left) (c .before .decide .ensures) (c .settle2 .ensures)
 
 pub after-submit-spec : {M : Type 1} → statement M
 after-submit-spec =
     tie.close
     (tie.spec
-    fate-in-requires
+    array-copy-out-standing
     is-open-requires
     returns
+    mul-declared
+    array-copy-out-declared
     hold-requires
-    event-in-requires
     is-delayable-requires
     settle-requires
     returns-2

@@ -1,6 +1,6 @@
 -- `State::break_if` meets its contract.
 use mathlib.Core.Path.{_∙_}
-use Rattle.scheduler.proofs.CallSteps.{break-yes}
+use Rattle.scheduler.proofs.CallLoops.{break-yes}
 use borrow.Author.Needs.{needs}
 use Rattle.scheduler.proofs.state.State.break_if.Statement.{statement}
 use Rattle.scheduler.proofs.state.State.break_if.Tie as tie

@@ -1,8 +1,12 @@
 -- `State::close_step` meets its contract.
-use mathlib.Core.Path.{sym, _∙_}
-use Rattle.scheduler.specs.Prelude.{Close, Unknown, AlreadyClosed}
-use Rattle.scheduler.proofs.CallSteps.{says-no, says-yes, call-incoherent, call-refused, call-accepted, close-unknown, close-again, close-known, close-reply}
 use borrow.Author.Needs.{needs}
+use mathlib.Core.Bool.{false}
+use mathlib.Core.Logic.{inl, inr}
+use mathlib.Core.Path.{_≡_, sym, _∙_}
+use Rattle.scheduler.specs.Prelude.{Close, Unknown, AlreadyClosed}
+use Rattle.plan.proofs.Arrays.{read-in, read-past}
+use Rattle.scheduler.specs.State.{closedAt}
+use Rattle.scheduler.proofs.CallSteps.{says-no, says-yes, call-incoherent, call-refused, call-accepted, close-unknown, close-again, close-known, close-reply}
 use Rattle.scheduler.proofs.state.State.close_step.Statement.{statement}
 use Rattle.scheduler.proofs.state.State.close_step.Tie as tie
 
@@ -30,33 +34,39 @@ returns-2 c =
     c .turn-down2 .ensures
     ∙ call-refused (a .self) (Close (a .step)) hangs Unknown (close-unknown (a .self) (a .step) (says-no _ _ (c .before .before .has-event .ensures) (c .before .if2 .taken)))
 
-is-closed-in-requires : tie.Need-is-closed-in-requires
-is-closed-in-requires c κs = search needs
+array-read-if4 : tie.Need-array-read-if4
+array-read-if4 c = search needs
 
 turn-down-requires-3 : tie.Need-turn-down-requires-3
 turn-down-requires-3 c κs = search needs
 
 returns-3 : tie.Need-returns-3
 returns-3 c =
-    let a = c .before .before .before .before .before .before .before .before .before .args in
-    let hangs = says-yes _ _ (c .before .before .before .before .before .before .is-coherent .ensures) (c .before .before .before .before .before .if1 .left) in
-    let known = says-yes _ _ (c .before .before .before .before .has-event .ensures) (c .before .before .before .if2 .left) in
+    let test = c .before .before .before in
+    let a = test .before .before .before .before .before .before .args in
+    let hangs = says-yes _ _ (test .before .before .before .is-coherent .ensures) (test .before .before .if1 .left) in
+    let known = says-yes _ _ (test .before .has-event .ensures) (test .if2 .left) in
     c .turn-down3 .ensures
-    ∙ call-refused (a .self) (Close (a .step)) hangs AlreadyClosed (close-again (a .self) (a .step) known (sym (c .before .before .is-closed-in .ensures) ∙ c .before .if3 .taken))
+    ∙ call-refused (a .self) (Close (a .step)) hangs AlreadyClosed (close-again (a .self) (a .step) known (read-in 8 (a .self .closed) (a .step) false (c .before .before .if3 .taken) ∙ c .before .if4 .taken))
 
 after-close-requires : tie.Need-after-close-requires
 after-close-requires c κs = search needs
 
 returns-4 : tie.Need-returns-4
 returns-4 c =
-    let a = c .before .before .before .before .before .before .before .before .before .args in
-    let known = says-yes _ _ (c .before .before .before .before .has-event .ensures) (c .before .before .before .if2 .left) in
+    let test = c .before .before in
+    let a = test .before .before .before .before .before .before .args in
+    let known = says-yes _ _ (test .before .has-event .ensures) (test .if2 .left) in
+    let unclosed : closedAt (a .self) (a .step) ≡ false = elim (c .before .if3 .came) [
+      | inl w ↦ read-in 8 (a .self .closed) (a .step) false (w .0 .taken) ∙ w .1 .left
+      | inr w ↦ read-past 8 (a .self .closed) (a .step) false (w .left)
+    ] in
     call-accepted
     (a .self)
     (Close (a .step))
-    (says-yes _ _ (c .before .before .before .before .before .before .is-coherent .ensures) (c .before .before .before .before .before .if1 .left))
+    (says-yes _ _ (test .before .before .before .is-coherent .ensures) (test .before .before .if1 .left))
     _
-    (close-known (a .self) (a .step) known (sym (c .before .before .is-closed-in .ensures) ∙ c .before .if3 .left))
+    (close-known (a .self) (a .step) known unclosed)
     (close-reply (a .self) (a .step) _ (c .after-close .ensures))
 
 pub close-step-spec : {M : Type 1} → statement M
@@ -69,7 +79,7 @@ close-step-spec =
     has-event-requires
     turn-down-requires-2
     returns-2
-    is-closed-in-requires
+    array-read-if4
     turn-down-requires-3
     returns-3
     after-close-requires

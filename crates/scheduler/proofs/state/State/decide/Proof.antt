@@ -1,9 +1,9 @@
 -- `State::decide` meets its contract.
-use mathlib.Core.Path.{_∙_, ap}
-use Rattle.plan.specs.Plans.{holdsBit}
-use Rattle.scheduler.specs.Prelude.{Event}
-use Rattle.scheduler.proofs.CallSteps.{decide-found, decide-refused, decide-done}
 use borrow.Author.Needs.{needs}
+use mathlib.Core.Logic.{inl, inr}
+use mathlib.Core.Path.{refl}
+use Rattle.plan.proofs.RuleReads.{bit-in, bit-past}
+use Rattle.scheduler.proofs.CallSteps.{decide-found, decide-refused, decide-done}
 use Rattle.scheduler.proofs.state.State.decide.Statement.{statement}
 use Rattle.scheduler.proofs.state.State.decide.Tie as tie
 
@@ -16,8 +16,11 @@ do-order-requires c κs = search needs
 returns : tie.Need-returns
 returns c = decide-found _ _ _ (c .before .before .find-order .ensures) _ (c .before .if1 .taken) (c .do-order .ensures)
 
-event-in-requires : tie.Need-event-in-requires
-event-in-requires c κs = search needs
+mul-declared : tie.Need-mul-declared
+mul-declared c = search needs
+
+array-copy-out-declared : tie.Need-array-copy-out-declared
+array-copy-out-declared c = search needs
 
 is-rejectable-requires : tie.Need-is-rejectable-requires
 is-rejectable-requires c κs = search needs
@@ -27,11 +30,16 @@ settle-as-requires c κs = search needs
 
 returns-2 : tie.Need-returns-2
 returns-2 c =
-    decide-refused _ _ _
-    (c .before .before .before .before .before .find-order .ensures) _ _
-    (c .before .before .before .before .if1 .left)
-    (c .before .before .is-rejectable .ensures ∙ ap (λ (v : Event). holdsBit 2 (v .attributes)) (c .before .before .before .event-in .ensures))
-    (c .before .if2 .taken)
+    let rejects = c .before .before .is-rejectable in
+    let join = c .before .before .before in
+    let found = join .before .before .find-order in
+    let a = join .before .before .before .before .before .args in
+    decide-refused (a .self) (a .event) (found .result) (found .ensures) _ (rejects .result) (join .before .if1 .left)
+    (elim (join .if2 .came) [
+      | inl w ↦ bit-in (a .self .plan) _ refl 2 (a .event) _ _ (rejects .ensures) (w .0 .taken) (w .2)
+      | inr w ↦ bit-past (a .self .plan) _ refl 2 (a .event) _ _ (rejects .ensures) (w .0 .left) (w .1)
+    ])
+    (c .before .if3 .taken)
     (c .settle-as .ensures)
 
 do-alone-requires : tie.Need-do-alone-requires
@@ -39,11 +47,16 @@ do-alone-requires c κs = search needs
 
 returns-3 : tie.Need-returns-3
 returns-3 c =
-    decide-done _ _ _
-    (c .before .before .before .before .before .find-order .ensures) _ _
-    (c .before .before .before .before .if1 .left)
-    (c .before .before .is-rejectable .ensures ∙ ap (λ (v : Event). holdsBit 2 (v .attributes)) (c .before .before .before .event-in .ensures))
-    (c .before .if2 .left)
+    let rejects = c .before .before .is-rejectable in
+    let join = c .before .before .before in
+    let found = join .before .before .find-order in
+    let a = join .before .before .before .before .before .args in
+    decide-done (a .self) (a .event) (found .result) (found .ensures) _ (rejects .result) (join .before .if1 .left)
+    (elim (join .if2 .came) [
+      | inl w ↦ bit-in (a .self .plan) _ refl 2 (a .event) _ _ (rejects .ensures) (w .0 .taken) (w .2)
+      | inr w ↦ bit-past (a .self .plan) _ refl 2 (a .event) _ _ (rejects .ensures) (w .0 .left) (w .1)
+    ])
+    (c .before .if3 .left)
     (c .do-alone .ensures)
 
 pub decide-spec : {M : Type 1} → statement M
@@ -53,7 +66,8 @@ decide-spec =
     find-order-requires
     do-order-requires
     returns
-    event-in-requires
+    mul-declared
+    array-copy-out-declared
     is-rejectable-requires
     settle-as-requires
     returns-2

@@ -1,9 +1,10 @@
 -- `State::turns_down` meets its contract.
-use mathlib.Core.Bool.{Bool, not, _||_}
+use borrow.Author.Needs.{needs}
+use mathlib.Core.Bool.{Bool, false, not, _||_, or-false}
 use mathlib.Core.Path.{sym, _∙_, ap, ap₂}
+use Rattle.plan.proofs.Arrays.{read-in, read-past}
 use Rattle.scheduler.specs.Answers.{turnsDown}
 use Rattle.scheduler.proofs.CallSteps.{submit-turns, close-turns, finish-turns}
-use borrow.Author.Needs.{needs}
 use Rattle.scheduler.proofs.state.State.turns_down.Statement.{statement}
 use Rattle.scheduler.proofs.state.State.turns_down.Tie as tie
 
@@ -16,8 +17,22 @@ enum-known-made-2 c = search needs
 has-event-requires : tie.Need-has-event-requires
 has-event-requires c κs = search needs
 
-is-closed-in-requires : tie.Need-is-closed-in-requires
-is-closed-in-requires c κs = search needs
+cast-result : tie.Need-cast-result
+cast-result c = search needs
+
+array-read-result : tie.Need-array-read-result
+array-read-result c = search needs
+
+returns : tie.Need-returns
+returns c =
+    let told = c .before .before in
+    let s = told .before .before .before .before .before .args .self in
+    ap₂ (λ (a b : Bool). not a || b) (c .has-event .ensures) (sym (read-in 8 (s .closed) _ false (c .before .if1 .taken)))
+    ∙ close-turns s _
+    ∙ ap (turnsDown s) (sym (told .before .made2 .given .1))
+
+has-event-requires-2 : tie.Need-has-event-requires-2
+has-event-requires-2 c κs = search needs
 
 enum-told : tie.Need-enum-told
 enum-told c = search needs
@@ -25,17 +40,20 @@ enum-told c = search needs
 has-unclosed-requires : tie.Need-has-unclosed-requires
 has-unclosed-requires c κs = search needs
 
-returns : tie.Need-returns
-returns c = submit-turns _ _ ∙ ap (turnsDown _) (sym (c .before .before .made .given .1))
-
 returns-2 : tie.Need-returns-2
-returns-2 c =
-    ap₂ (λ (a b : Bool). not a || b) (c .before .has-event .ensures) (c .is-closed-in .ensures)
-    ∙ close-turns _ _
-    ∙ ap (turnsDown _) (sym (c .before .before .before .made2 .given .1))
+returns-2 c = submit-turns _ _ ∙ ap (turnsDown _) (sym (c .before .before .made .given .1))
 
 returns-3 : tie.Need-returns-3
-returns-3 c = c .has-unclosed .ensures ∙ finish-turns _ ∙ ap (turnsDown _) (sym (c .before .enum-told .given .1))
+returns-3 c =
+    let told = c .before .before in
+    let s = told .before .before .before .before .before .args .self in
+    sym (or-false (not (c .has-event2 .result)))
+    ∙ ap₂ (λ (a b : Bool). not a || b) (c .has-event2 .ensures) (sym (read-past 8 (s .closed) _ false (c .before .if1 .left)))
+    ∙ close-turns s _
+    ∙ ap (turnsDown s) (sym (told .before .made2 .given .1))
+
+returns-4 : tie.Need-returns-4
+returns-4 c = c .has-unclosed .ensures ∙ finish-turns _ ∙ ap (turnsDown _) (sym (c .before .enum-told .given .1))
 
 pub turns-down-spec : {M : Type 1} → statement M
 turns-down-spec =
@@ -44,9 +62,12 @@ turns-down-spec =
     enum-known-made
     enum-known-made-2
     has-event-requires
-    is-closed-in-requires
+    cast-result
+    array-read-result
+    returns
+    has-event-requires-2
     enum-told
     has-unclosed-requires
-    returns
     returns-2
-    returns-3)
+    returns-3
+    returns-4)

@@ -1,0 +1,41 @@
+// What one rule forbids and owes, by the sets of a view.
+use super::set::is_in;
+use super::view::View;
+use plan::rule::Rule;
+ghost use mathlib.Core.Path.{_≡_};
+ghost use Rattle.plan.specs.Fates.{Fates};
+ghost use Rattle.plan.specs.Rules.{forbids, owes};
+ghost use Rattle.members.specs.Prelude.{Plan};
+ghost use Rattle.members.specs.Sets.{Shows};
+
+// Does the rule forbid doing the event, for good or for now (6.2 to 6.6)?
+pub fn does_forbid(rule: Rule, view: View, event: u8) -> bool
+    ensures { λ r. ⌜ ((p : Plan) (f : Fates) → Shows p f view → r ≡ forbids p f rule event) ⌝ }
+{
+    match rule {
+        Rule::Order(a, b) => {
+            ((event == a) & is_in(view.done, b))
+                | ((event == b)
+                    & is_in(view.waits, b)
+                    & !(is_in(view.done, a) | is_in(view.gone, a)))
+        }
+        Rule::Need(a, b) => (event == a) & is_in(view.gone, b),
+        Rule::Conditional(a, b, c) => {
+            is_in(view.gone, c)
+                & (((event == a) & is_in(view.done, b)) | ((event == b) & is_in(view.done, a)))
+        }
+    }
+}
+
+// Does the rule owe (6.3, 6.7)?
+pub fn does_owe(rule: Rule, view: View) -> bool
+    ensures { λ r. ⌜ ((p : Plan) (f : Fates) → Shows p f view → r ≡ owes p f rule) ⌝ }
+{
+    match rule {
+        Rule::Order(a, b) => false,
+        Rule::Need(a, b) => is_in(view.done, a) & !(is_in(view.done, b) | is_in(view.gone, b)),
+        Rule::Conditional(a, b, c) => {
+            is_in(view.done, a) & is_in(view.done, b) & !(is_in(view.done, c) | is_in(view.gone, c))
+        }
+    }
+}
