@@ -229,6 +229,25 @@ fn hex(bytes: &[u8]) -> String {
     words.join(" ")
 }
 
+/// Asks that the library's report and the peer's are the same.
+pub fn agree(
+    number: usize,
+    sheet: &[u8],
+    calls: &[u8],
+    (library, peer): (Vec<u8>, Vec<u8>),
+) -> Result<(), Box<Difference>> {
+    if library == peer {
+        return Ok(());
+    }
+    Err(Box::new(Difference {
+        number,
+        sheet: sheet.to_vec(),
+        calls: calls.to_vec(),
+        library,
+        peer,
+    }))
+}
+
 /// A random pair.
 pub fn pair(random: &mut Random) -> (Vec<u8>, Vec<u8>) {
     let made = sheet(random);
@@ -248,17 +267,8 @@ pub fn compare(
     for number in 0..count {
         let (sheet, calls) = pair(&mut random);
         let outcome = trace(&sheet, &calls);
-        let peer = report(&outcome).into_bytes();
-        let library = library(&sheet, &calls);
-        if library != peer {
-            return Err(Box::new(Difference {
-                number,
-                sheet,
-                calls,
-                library,
-                peer,
-            }));
-        }
+        let reports = (library(&sheet, &calls), report(&outcome).into_bytes());
+        agree(number, &sheet, &calls, reports)?;
         tally.add(&outcome);
     }
     Ok(tally)

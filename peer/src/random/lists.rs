@@ -30,8 +30,8 @@ pub fn calls(random: &mut Random, made: &Made) -> Vec<u8> {
     list
 }
 
-/// Calls of which `closing` per cent close a step.
-pub fn long_list(random: &mut Random, made: &Made, length: usize, closing: u64) -> Vec<u8> {
+/// Calls of all sorts, of which `closing` per cent close a step.
+pub fn mixed_list(random: &mut Random, made: &Made, length: usize, closing: u64) -> Vec<u8> {
     let mut list = Vec::new();
     for _ in 0..length {
         list.extend(one_call(random, made, closing));
@@ -39,14 +39,8 @@ pub fn long_list(random: &mut Random, made: &Made, length: usize, closing: u64) 
     list
 }
 
-/// Most events, each handed in once, then everything closed and wound up.
-pub fn full_list(random: &mut Random, made: &Made) -> Vec<u8> {
-    let mut list = all_events(random, made);
-    list.extend(ending(random, made));
-    list
-}
-
-/// Like a full list, at times with closings among the hand-ins.
+/// Most events, each handed in once, then everything closed and wound up; at
+/// times with closings among the hand-ins.
 pub fn hostile_list(random: &mut Random, made: &Made) -> Vec<u8> {
     let mut list = all_events(random, made);
     for _ in 0..random.pick(&[0, 0, 0, 0, 1, 1, 2, 4]) {

@@ -5,9 +5,9 @@ mod lists;
 mod shapes;
 mod sheets;
 
-pub use lists::{calls, full_list, hostile_list, long_list};
+pub use lists::{calls, hostile_list, mixed_list};
 pub use shapes::hostile_sheet;
-pub use sheets::{large_sheet, sheet, small_sheet, Made};
+pub use sheets::{admitted_sheet, sheet, Made};
 
 /// Splitmix64.
 pub struct Random(u64);

@@ -93,17 +93,10 @@ pub fn sheet(random: &mut Random) -> Made {
 }
 
 /// An admitted sheet of at most `most` events.
-pub fn small_sheet(random: &mut Random, most: usize) -> Made {
+pub fn admitted_sheet(random: &mut Random, most: usize) -> Made {
     let events = random.between(1, most);
     let rules = random.between(0, 2 * events).min(16);
-    let draft = draft_of(random, events, rules, 16);
-    finish(random, draft, false)
-}
-
-/// An admitted sheet of 16 events and up to 16 rules. At most `active` of the
-/// events are delayable or forcible.
-pub fn large_sheet(random: &mut Random, active: usize) -> Made {
-    let draft = draft_of(random, 16, 16, active);
+    let draft = draft_of(random, events, rules);
     finish(random, draft, false)
 }
 
@@ -138,12 +131,12 @@ fn draft(random: &mut Random) -> Draft {
     } else {
         random.between(0, 16)
     };
-    draft_of(random, events, rules, 16)
+    draft_of(random, events, rules)
 }
 
 /// Events and rules in mixed order. Some sheets favour delayable events, some
 /// forcible ones; some have a chain of needs.
-fn draft_of(random: &mut Random, events: usize, rules: usize, active: usize) -> Draft {
+fn draft_of(random: &mut Random, events: usize, rules: usize) -> Draft {
     const DELAYED: &[u8] = &[6, 6, 6, 6, 7, 1, 0];
     const FORCED: &[u8] = &[1, 1, 7, 7, 3, 6, 0];
     const EVEN: &[u8] = &[0, 1, 2, 3, 6, 7, 6, 6];
@@ -154,14 +147,10 @@ fn draft_of(random: &mut Random, events: usize, rules: usize, active: usize) -> 
     let mut draft = Draft::default();
     while draft.events() < events {
         let step = (random.below(usize::from(steps)) as u8 + shift) % 8;
-        let room = draft.events() + 4 <= events && draft.active() + 3 <= active;
-        if room && random.percent(20) {
+        if draft.events() + 4 <= events && random.percent(20) {
             draft.declare_four(step);
-        } else if draft.active() < active {
-            let sum = random.pick(palette);
-            draft.declare(step, sum);
         } else {
-            let sum = random.pick(&[0, 2]);
+            let sum = random.pick(palette);
             draft.declare(step, sum);
         }
         if mixed && draft.rules < rules && random.percent(40) {

@@ -1,0 +1,47 @@
+//! The table, in markdown.
+
+use std::fmt;
+
+pub const HEAD: &str = "| workload | library | peer | ratio |\n|---|---|---|---|";
+
+/// A workload with the times of one call, in nanoseconds.
+pub struct Row {
+    name: String,
+    library: f64,
+    peer: f64,
+}
+
+impl Row {
+    /// From the times of a pass of the library and one of the peer, and the
+    /// calls that either makes.
+    pub fn new(name: &str, calls: usize, [library, peer]: [f64; 2]) -> Row {
+        Row {
+            name: name.to_string(),
+            library: library / calls as f64,
+            peer: peer / calls as f64,
+        }
+    }
+}
+
+impl fmt::Display for Row {
+    fn fmt(&self, out: &mut fmt::Formatter) -> fmt::Result {
+        let (library, peer) = (duration(self.library), duration(self.peer));
+        let ratio = figures(self.library / self.peer, 2);
+        write!(out, "| {} | {library} | {peer} | {ratio} |", self.name)
+    }
+}
+
+fn duration(nanoseconds: f64) -> String {
+    if nanoseconds < 999.5 {
+        format!("{} ns", figures(nanoseconds, 3))
+    } else {
+        format!("{} µs", figures(nanoseconds / 1000.0, 3))
+    }
+}
+
+/// The number with as many significant figures, and all those before its point.
+fn figures(number: f64, count: i32) -> String {
+    let before = number.log10().floor() as i32 + 1;
+    let places = (count - before).max(0) as usize;
+    format!("{number:.places$}")
+}
