@@ -40,8 +40,11 @@ fn duration(nanoseconds: f64) -> String {
 }
 
 /// The number with as many significant figures, and all those before its point.
-fn figures(number: f64, count: i32) -> String {
-    let before = number.log10().floor() as i32 + 1;
-    let places = (count - before).max(0) as usize;
+/// They are counted after rounding: 0.9996 is 1.00.
+fn figures(number: f64, count: usize) -> String {
+    let rounded = format!("{number:.*e}", count - 1);
+    let rounded: f64 = rounded.parse().expect("a number");
+    let before = rounded.log10().floor() as i32 + 1;
+    let places = (count as i32 - before).max(0) as usize;
     format!("{number:.places$}")
 }

@@ -112,7 +112,7 @@ fn ring_of_needs(events: u8) -> Workload {
 fn filled(name: &str, sheet: &[u8], mut calls: Vec<u8>, record: &[u8]) -> Workload {
     let room = (FILE - calls.len()) / record.len();
     calls.extend(record.repeat(room));
-    one(&format!("a file of {name}"), sheet.to_vec(), calls)
+    one(&format!("65,536 bytes: {name}"), sheet.to_vec(), calls)
 }
 
 /// Files of calls where all sixteen events are settled.

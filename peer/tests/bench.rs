@@ -1,0 +1,176 @@
+//! The benchmark's workloads are what their names say, and a library that
+//! differs is found out before anything is timed.
+
+use peer::bench::single::{self, Kept, Single};
+use peer::bench::table::Row;
+use peer::bench::workloads::{self, Workload};
+use peer::peer::calls::Call;
+use peer::peer::{trace, Run, Scheduler};
+use peer::{library, peer as second};
+
+fn named(part: &str) -> Workload {
+    let mut found = workloads::list()
+        .into_iter()
+        .filter(|work| work.name.contains(part));
+    let work = found.next().expect("a workload of that name");
+    assert!(found.next().is_none(), "two workloads of that name");
+    work
+}
+
+/// The run of a workload that has one list.
+fn run(part: &str) -> Run {
+    let work = named(part);
+    assert_eq!(work.pairs.len(), 1, "{part}");
+    let (sheet, calls) = &work.pairs[0];
+    let run = trace(sheet, calls).expect("an admitted sheet");
+    assert_eq!(run.answers.len(), work.calls(), "{part}");
+    run
+}
+
+fn held(scheduler: &Scheduler) -> usize {
+    scheduler.state().held.count_ones() as usize
+}
+
+#[test]
+fn library_agrees_on_every_workload() {
+    for work in workloads::list() {
+        assert_eq!(work.compare(library::run), Ok(()));
+    }
+}
+
+#[test]
+fn a_wrong_report_is_found() {
+    for work in workloads::list() {
+        let (sheet, calls) = work.pairs.last().expect("a pair").clone();
+        let wrong = |of: &[u8], list: &[u8]| {
+            let mut report = second::run(of, list);
+            if of == sheet && list == calls {
+                report.pop();
+            }
+            report
+        };
+        assert!(work.compare(wrong).is_err(), "{}", work.name);
+    }
+}
+
+/// As large as they say, admitted, and with one to three calls for each event.
+#[test]
+fn random_sheets_are_of_every_size() {
+    for (name, most) in [("small", 5), ("random sheets, up to 12", 12), ("large", 16)] {
+        let mut sizes = vec![0; most + 1];
+        for (sheet, calls) in named(name).pairs {
+            let run = trace(&sheet, &calls).expect("an admitted sheet");
+            let (events, calls) = (run.scheduler.sheet().events(), run.answers.len());
+            assert!((events..=3 * events).contains(&calls), "{events} {calls}");
+            sizes[events] += 1;
+        }
+        assert!(sizes[1..].iter().all(|count| *count > 0), "{sizes:?}");
+    }
+}
+
+/// Six events can be done together, more cannot.
+#[test]
+fn rings_and_the_star_are_settled() {
+    for (name, events, done) in [
+        ("of 6 ", 6, 6),
+        ("of 7 ", 7, 0),
+        ("of 12 ", 12, 0),
+        ("of 16 ", 16, 0),
+        ("needs one", 16, 16),
+    ] {
+        let run = run(name);
+        assert_eq!(run.scheduler.history().len(), events, "{name}");
+        assert_eq!(run.scheduler.state().done.count_ones(), done, "{name}");
+        assert_eq!(run.turned_down(), 0, "{name}");
+    }
+}
+
+/// Each file is full. Its repeated calls are all taken or all turned down.
+#[test]
+fn files_repeat_one_call() {
+    let rows = [
+        ("hand-ins of a settled event", true, None),
+        ("hand-ins of an event that is not there", true, Some(16)),
+        ("closings of a closed step", true, Some(24)),
+        ("windings up, all settled and closed", true, None),
+        ("windings up, steps not closed yet", false, Some(16)),
+        ("hand-ins of a held event", false, None),
+    ];
+    for (name, settled, first_turned_down) in rows {
+        let run = run(name);
+        assert_eq!(named(name).pairs[0].1.len(), 65_536, "{name}");
+        let (history, held) = (run.scheduler.history().len(), held(&run.scheduler));
+        assert_eq!(
+            (history, held),
+            if settled { (16, 0) } else { (0, 16) },
+            "{name}"
+        );
+        let turned_down = first_turned_down.map_or(0, |first| run.answers.len() - first);
+        assert_eq!(run.turned_down(), turned_down, "{name}");
+    }
+}
+
+/// Fifteen needs with the star, and else sixteen rules; every event settled or
+/// held but the one that is handed in.
+#[test]
+fn single_calls_are_made_on_full_states() {
+    for single in single::list() {
+        let state: Scheduler = single.state();
+        let (rules, reached) = (
+            state.sheet().rules.len(),
+            state.history().len() + held(&state),
+        );
+        let star = single.name.contains("fifteen");
+        let full = if star { (15, 15) } else { (16, 16) };
+        assert_eq!((rules, reached), full, "{}", single.name);
+    }
+}
+
+/// A state whose winding up leaves everything as it is.
+#[derive(Clone)]
+struct Idle(Scheduler);
+
+impl Kept for Idle {
+    fn open(sheet: &[u8]) -> Idle {
+        Idle(Scheduler::open(sheet))
+    }
+
+    fn call(&mut self, call: Call) -> u8 {
+        let mut state = self.0.clone();
+        let number = state.call(call);
+        if call != Call::Finish {
+            self.0 = state;
+        }
+        number
+    }
+
+    fn report(&self) -> Vec<u8> {
+        Kept::report(&self.0)
+    }
+}
+
+/// Only the winding up that has something to do tells.
+#[test]
+fn a_wrong_state_is_found() {
+    let differs = |single: &Single| single.outcome::<Idle>() != single.outcome::<Scheduler>();
+    let found: Vec<Single> = single::list().into_iter().filter(differs).collect();
+    let names: Vec<&str> = found.iter().map(|single| single.name).collect();
+    assert_eq!(names, ["a winding up of sixteen held events"]);
+    assert!(found[0].measure::<Idle>().is_err());
+    assert!(found[0].measure::<Scheduler>().is_ok());
+}
+
+#[test]
+fn rows_are_markdown() {
+    let row = |times| Row::new("a", 10, times).to_string();
+    assert_eq!(row([160.4, 91.0]), "| a | 16.0 ns | 9.10 ns | 1.8 |");
+    assert_eq!(row([9_994.0, 9_996.0]), "| a | 999 ns | 1.00 µs | 1.0 |");
+    assert_eq!(
+        row([4_512.0, 131_234.0]),
+        "| a | 451 ns | 13.1 µs | 0.034 |"
+    );
+    assert_eq!(
+        row([50_000.0, 12_345_678.0]),
+        "| a | 5.00 µs | 1235 µs | 0.0041 |"
+    );
+}
