@@ -3,10 +3,12 @@
 
 use peer::bench::single::{self, Kept, Single};
 use peer::bench::table::Row;
+use peer::bench::timing::{measure, Work};
 use peer::bench::workloads::{self, Workload};
 use peer::peer::calls::Call;
 use peer::peer::{trace, Run, Scheduler};
 use peer::{library, peer as second};
+use std::hint::black_box;
 
 fn named(part: &str) -> Workload {
     let mut found = workloads::list()
@@ -156,8 +158,34 @@ fn a_wrong_state_is_found() {
     let found: Vec<Single> = single::list().into_iter().filter(differs).collect();
     let names: Vec<&str> = found.iter().map(|single| single.name).collect();
     assert_eq!(names, ["a winding up of sixteen held events"]);
-    assert!(found[0].measure::<Idle>().is_err());
-    assert!(found[0].measure::<Scheduler>().is_ok());
+    assert!(found[0].work::<Idle>().is_err());
+    assert!(found[0].work::<Scheduler>().is_ok());
+}
+
+fn spin(count: u32) {
+    for number in 0..count {
+        black_box(number);
+    }
+}
+
+/// The library's pass and the peer's are told apart, and a time is for a call.
+#[test]
+fn dearer_work_takes_longer() {
+    let spin = |count: u32| Box::new(move || spin(count));
+    let work = |name, calls, passes| Work {
+        name,
+        calls,
+        passes,
+    };
+    let works = [
+        work("one", 1, [spin(2_000), spin(20_000)]),
+        work("ten", 10, [spin(20_000), spin(2_000)]),
+    ];
+    let rows = measure(&works);
+    assert_eq!([&rows[0].name, &rows[1].name], ["one", "ten"]);
+    assert!(rows[0].peer > 3.0 * rows[0].library);
+    assert!(rows[1].library > 3.0 * rows[1].peer);
+    assert!(rows[0].peer > 3.0 * rows[1].library);
 }
 
 #[test]

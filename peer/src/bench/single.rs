@@ -4,11 +4,10 @@
 //! Nothing here is in the table yet, as the library keeps no state so far. Once
 //! its C interface has calls on the image of a state: implement `Kept` for the
 //! image in `library.rs`, as is done for the peer's scheduler below, and let
-//! `bin/bench.rs` print `single.measure::<Image>()?` for each of `list()`.
+//! `bin/bench.rs` add `single.work::<Image>()?` to its work for each of `list()`.
 
 use super::bytes::{all_held, all_settled, closings, hand_ins, star, Pair};
-use super::table::Row;
-use super::timing::least_times;
+use super::timing::Work;
 use crate::peer::calls::{apply, split_call, Answer, Call, Run};
 use crate::peer::report::report;
 use crate::peer::{Scheduler, Sheet};
@@ -53,48 +52,54 @@ pub struct Single {
 }
 
 pub fn list() -> Vec<Single> {
-    let single = |name, before, call| Single { name, before, call };
-    let closed = |(sheet, calls): Pair| (sheet, [calls, closings(16)].concat());
-    vec![
-        single(
-            "a hand-in of a settled event",
-            all_settled(),
-            Call::Submit(0),
-        ),
+    on_settled().into_iter().chain(on_held()).collect()
+}
+
+/// Where all sixteen events are settled.
+fn on_settled() -> [Single; 5] {
+    let (settled, closed) = (all_settled(), closed(all_settled()));
+    [
+        single("a hand-in of a settled event", &settled, Call::Submit(0)),
         single(
             "a hand-in of an event that is not there",
-            all_settled(),
+            &settled,
             Call::Submit(255),
         ),
-        single("a closing, all settled", all_settled(), Call::CloseStep(3)),
-        single(
-            "a closing of a closed step",
-            closed(all_settled()),
-            Call::CloseStep(3),
-        ),
+        single("a closing, all settled", &settled, Call::CloseStep(3)),
+        single("a closing of a closed step", &closed, Call::CloseStep(3)),
         single(
             "a winding up, all settled and closed",
-            closed(all_settled()),
+            &closed,
             Call::Finish,
         ),
-        single(
-            "a winding up, steps not closed yet",
-            all_held(),
-            Call::Finish,
-        ),
-        single("a hand-in of a held event", all_held(), Call::Submit(5)),
-        single("a closing, sixteen held", all_held(), Call::CloseStep(3)),
-        single(
-            "a winding up of sixteen held events",
-            closed(all_held()),
-            Call::Finish,
-        ),
+    ]
+}
+
+/// Where sixteen events are held, or fifteen for want of the last.
+fn on_held() -> [Single; 5] {
+    let (held, closed) = (all_held(), closed(all_held()));
+    let waiting = (star(), hand_ins(15));
+    [
+        single("a winding up, steps not closed yet", &held, Call::Finish),
+        single("a hand-in of a held event", &held, Call::Submit(5)),
+        single("a closing, sixteen held", &held, Call::CloseStep(3)),
+        single("a winding up of sixteen held events", &closed, Call::Finish),
         single(
             "a hand-in that fifteen wait for",
-            (star(), hand_ins(15)),
+            &waiting,
             Call::Submit(15),
         ),
     ]
+}
+
+fn single(name: &'static str, before: &Pair, call: Call) -> Single {
+    let before = before.clone();
+    Single { name, before, call }
+}
+
+/// The state with every step closed.
+fn closed((sheet, calls): Pair) -> Pair {
+    (sheet, [calls, closings(16)].concat())
 }
 
 impl Single {
@@ -116,15 +121,26 @@ impl Single {
         (state.call(self.call), state.report())
     }
 
-    /// Times the call, the copying of the state before it included, once the
-    /// library is seen to answer and to report as the peer does.
-    pub fn measure<Library: Kept>(&self) -> Result<Row, String> {
+    /// A pass makes the call many times, each on a copy of the state; the copying
+    /// is part of the time. The library has to answer and to report as the peer
+    /// does.
+    pub fn work<Library: Kept + 'static>(&self) -> Result<Work<'_>, String> {
         if self.outcome::<Library>() != self.outcome::<Scheduler>() {
             return Err(format!("{} differs", self.name));
         }
-        let (library, peer) = (self.state::<Library>(), self.state::<Scheduler>());
-        let passes: [&dyn Fn(); 2] = [&|| pass(&library, self.call), &|| pass(&peer, self.call)];
-        Ok(Row::new(self.name, PASS, least_times(passes)))
+        let (call, library, peer) = (
+            self.call,
+            self.state::<Library>(),
+            self.state::<Scheduler>(),
+        );
+        Ok(Work {
+            name: self.name,
+            calls: PASS,
+            passes: [
+                Box::new(move || pass(&library, call)),
+                Box::new(move || pass(&peer, call)),
+            ],
+        })
     }
 }
 

@@ -2,13 +2,20 @@
 
 use std::fmt;
 
-pub const HEAD: &str = "| workload | library | peer | ratio |\n|---|---|---|---|";
+const HEAD: &str = "| workload | library | peer | ratio |\n|---|---|---|---|";
 
 /// A workload with the times of one call, in nanoseconds.
 pub struct Row {
-    name: String,
-    library: f64,
-    peer: f64,
+    pub name: String,
+    pub library: f64,
+    pub peer: f64,
+}
+
+pub fn print(rows: &[Row]) {
+    println!("{HEAD}");
+    for row in rows {
+        println!("{row}");
+    }
 }
 
 impl Row {

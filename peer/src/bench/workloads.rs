@@ -2,8 +2,7 @@
 //! files of calls that change nothing.
 
 use super::bytes::{all_held, all_settled, closings, hand_ins, ring, sheet, star, Pair};
-use super::table::Row;
-use super::timing::least_times;
+use super::timing::Work;
 use crate::compare::agree;
 use crate::library::{run_into, LONGEST_REPORT};
 use crate::peer as second;
@@ -53,9 +52,9 @@ impl Workload {
         Ok(())
     }
 
-    /// Times the library and the peer. Each is called as it is meant to be: the
+    /// A pass runs every list. Each of the two is called as it is meant to be: the
     /// library writes into a lent buffer, the peer makes its report.
-    pub fn measure(&self) -> Row {
+    pub fn work(&self) -> Work<'_> {
         let library = || {
             let mut out = [0; LONGEST_REPORT];
             for (sheet, calls) in &self.pairs {
@@ -68,7 +67,11 @@ impl Workload {
                 black_box(second::run(black_box(sheet), black_box(calls)));
             }
         };
-        Row::new(&self.name, self.calls(), least_times([&library, &peer]))
+        Work {
+            name: &self.name,
+            calls: self.calls(),
+            passes: [Box::new(library), Box::new(peer)],
+        }
     }
 }
 

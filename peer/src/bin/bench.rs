@@ -3,20 +3,18 @@
 //! report included, and the library's time over the peer's. All reports are
 //! compared first; a difference ends the run with status 1.
 
-use peer::bench::table::HEAD;
-use peer::bench::workloads;
+use peer::bench::{table, timing, workloads};
 use peer::library;
 use std::process::ExitCode;
 
 fn run() -> Result<(), String> {
     let workloads = workloads::list();
+    let mut works = Vec::new();
     for workload in &workloads {
         workload.compare(library::run)?;
+        works.push(workload.work());
     }
-    println!("{HEAD}");
-    for workload in &workloads {
-        println!("{}", workload.measure());
-    }
+    table::print(&timing::measure(&works));
     Ok(())
 }
 
