@@ -1,5 +1,6 @@
 //! Single calls on a state that its owner keeps, where the state is as full as
-//! it can be: 16 events, 16 rules, and a full history or sixteen events held.
+//! it can be: 16 events, 16 rules, and a full history or sixteen events held (in
+//! the last, 15 rules and fifteen held).
 //!
 //! Nothing here is in the table yet, as the library keeps no state so far. Once
 //! its C interface has calls on the image of a state: implement `Kept` for the
@@ -122,8 +123,8 @@ impl Single {
     }
 
     /// A pass makes the call many times, each on a copy of the state; the copying
-    /// is part of the time. The library has to answer and to report as the peer
-    /// does.
+    /// is part of the time, and the peer's allocates. The library has to answer and
+    /// to report as the peer does.
     pub fn work<Library: Kept + 'static>(&self) -> Result<Work<'_>, String> {
         if self.outcome::<Library>() != self.outcome::<Scheduler>() {
             return Err(format!("{} differs", self.name));
