@@ -1,16 +1,9 @@
--- `main` is safe and ends: the report fits the buffer.
+-- `main` is safe and ends: the lengths lie within the buffers, and the report fits its own.
 use native.Mathlib.Omega.{arith}
-use mathlib.Core.Path.{sym}
-use lib.Seq.{length-take-le}
+use Rattle.io.proofs.Counting.{front}
 use borrow.Author.Needs.{needs}
 use Rattle.runner.proofs.main.Statement.{statement}
 use Rattle.runner.proofs.main.Tie as tie
-
-large-buffer-requires : tie.Need-large-buffer-requires
-large-buffer-requires c κs = search needs
-
-large-buffer-requires-2 : tie.Need-large-buffer-requires-2
-large-buffer-requires-2 c κs = search needs
 
 slice-aggregate-read-file : tie.Need-slice-aggregate-read-file
 slice-aggregate-read-file c = search needs
@@ -21,6 +14,9 @@ slice-aggregate-read-file-2 c = search needs
 read-file-requires : tie.Need-read-file-requires
 read-file-requires c κs = search needs
 
+returns : tie.Need-returns
+returns c = search needs
+
 slice-aggregate-read-file-3 : tie.Need-slice-aggregate-read-file-3
 slice-aggregate-read-file-3 c = search needs
 
@@ -29,6 +25,9 @@ slice-aggregate-read-file-4 c = search needs
 
 read-file-requires-2 : tie.Need-read-file-requires-2
 read-file-requires-2 c κs = search needs
+
+returns-2 : tie.Need-returns-2
+returns-2 c = search needs
 
 array-share-prefix-sheet : tie.Need-array-share-prefix-sheet
 array-share-prefix-sheet c = search needs
@@ -51,27 +50,27 @@ sinewhopa-run-requires c κs = search needs
 array-share-prefix-out : tie.Need-array-share-prefix-out
 array-share-prefix-out c = search needs
 
-slice-aggregate-write-all : tie.Need-slice-aggregate-write-all
-slice-aggregate-write-all c = sym (length-take-le (c .before .before .sinewhopa-run .result) _ (omega (arith, c .before .before .sinewhopa-run .kept .1 .1 .0, c .before .before .sinewhopa-run .ensures .1 .1)))
+slice-aggregate-print-report : tie.Need-slice-aggregate-print-report
+slice-aggregate-print-report c = front _ _ (omega (arith, c .before .before .sinewhopa-run .kept .1 .1 .0, c .before .before .sinewhopa-run .ensures .1 .1))
 
-write-all-requires : tie.Need-write-all-requires
-write-all-requires c κs = search needs
+print-report-requires : tie.Need-print-report-requires
+print-report-requires c κs = search needs
 
-returns : tie.Need-returns
-returns c = search needs
+returns-3 : tie.Need-returns-3
+returns-3 c = search needs
 
 pub main-spec : {M : Type 1} → statement M
 main-spec =
     tie.close
     (tie.spec
-    large-buffer-requires
-    large-buffer-requires-2
     slice-aggregate-read-file
     slice-aggregate-read-file-2
     read-file-requires
+    returns
     slice-aggregate-read-file-3
     slice-aggregate-read-file-4
     read-file-requires-2
+    returns-2
     array-share-prefix-sheet
     slice-aggregate-sinewhopa-run
     array-share-prefix-calls
@@ -79,6 +78,6 @@ main-spec =
     slice-aggregate-sinewhopa-run-3
     sinewhopa-run-requires
     array-share-prefix-out
-    slice-aggregate-write-all
-    write-all-requires
-    returns)
+    slice-aggregate-print-report
+    print-report-requires
+    returns-3)
