@@ -59,7 +59,7 @@ expect() {
     printf '%s' "${line:+$line
 }" >"$folder/line"
     if [ "$status" -ne "$wanted" ] || ! cmp -s "$folder/out" "$folder/report" || ! cmp -s "$folder/err" "$folder/line"; then
-        echo "DIFFERENT: $name: status $status, not $wanted; standard output, then standard error:"
+        echo "DIFFERENT: $name: status $status, $wanted wanted; then the differences in standard output and in standard error"
         diff "$folder/report" "$folder/out" || true
         diff "$folder/line" "$folder/err" || true
         exit 1
