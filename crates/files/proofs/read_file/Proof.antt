@@ -3,8 +3,8 @@ use native.Mathlib.Omega.{arith}
 use native.Mathlib.Nat.{min-le-left, min-le-right}
 use Rattle.io.proofs.Counting.{counts}
 use borrow.Author.Needs.{needs}
-use Rattle.runner.proofs.read_file.Statement.{statement}
-use Rattle.runner.proofs.read_file.Tie as tie
+use Rattle.files.proofs.read_file.Statement.{statement}
+use Rattle.files.proofs.read_file.Tie as tie
 
 open-read-requires : tie.Need-open-read-requires
 open-read-requires c κs = search needs

@@ -1,9 +1,9 @@
--- `main` is safe and ends: the lengths lie within the buffers, and the report fits its own.
+-- `sinewhopa_files` is safe and ends: the lengths lie within the buffers, and the report fits its own.
 use native.Mathlib.Omega.{arith}
 use Rattle.io.proofs.Counting.{front}
 use borrow.Author.Needs.{needs}
-use Rattle.runner.proofs.main.Statement.{statement}
-use Rattle.runner.proofs.main.Tie as tie
+use Rattle.files.proofs.sinewhopa_files.Statement.{statement}
+use Rattle.files.proofs.sinewhopa_files.Tie as tie
 
 slice-aggregate-read-file : tie.Need-slice-aggregate-read-file
 slice-aggregate-read-file c = search needs
@@ -59,8 +59,8 @@ print-report-requires c κs = search needs
 returns-3 : tie.Need-returns-3
 returns-3 c = search needs
 
-pub main-spec : {M : Type 1} → statement M
-main-spec =
+pub sinewhopa-files-spec : {M : Type 1} → statement M
+sinewhopa-files-spec =
     tie.close
     (tie.spec
     slice-aggregate-read-file

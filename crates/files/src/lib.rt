@@ -1,0 +1,136 @@
+// From sheet.bin and calls.bin in the working directory to the report on standard output. What goes wrong with a file or
+// with the output is said in one line on standard error and by the answer, which a program in C gives as its exit status.
+use libc::STDERR_FILENO;
+use libc::STDOUT_FILENO;
+ghost use Prim.Native.Nat.{_+_, _≤_, min};
+ghost use mathlib.Core.Path.{_≡_};
+ghost use lib.ListN.{length};
+ghost use Rattle.io.specs.Counts.{Counts};
+
+// How many bytes of a file count.
+const LIMIT: usize = 65536;
+
+// What became of a file: whether it was read, and how many bytes of it count.
+struct Contents {
+    is_read: bool,
+    len: usize,
+}
+
+// Reads the two files, runs the calls and prints the report: 0, or 1 where a file or the report failed.
+#[no_mangle]
+pub extern "C" fn sinewhopa_files() -> i32 {
+    // One byte more than the limit shows whether a file goes on past it.
+    let mut sheet = [0u8; 65537];
+    let mut calls = [0u8; 65537];
+    let mut out = [0u8; 320];
+    let sheet_read = read_file(b"sheet.bin", &mut sheet);
+    if !sheet_read.is_read {
+        return 1;
+    }
+    let calls_read = read_file(b"calls.bin", &mut calls);
+    if !calls_read.is_read {
+        return 1;
+    }
+    let sheet_len = sheet_read.len;
+    let calls_len = calls_read.len;
+    let n = sinewhopa::sinewhopa_run(&sheet[..sheet_len], &calls[..calls_len], &mut out);
+    print_report(&out[..n])
+}
+
+// The start of a file, at most LIMIT bytes. A missing file counts as empty; of one that goes on past the limit, and of
+// one that cannot be opened or read, standard error says so.
+fn read_file(path: &[u8], buf: &mut [u8]) -> Contents
+    ensures { λ r. ⌜ Counts (r .«len») (now (buf .exit)) ⌝ }
+    ensures { λ r. ⌜ r .«len» ≤ 65536 ⌝ }
+{
+    let fd = os::open_read(path);
+    if fd < 0 {
+        return Contents {
+            is_read: is_missing(path),
+            len: 0,
+        };
+    }
+    let got = fill(fd, buf);
+    if !got.is_read {
+        os::fail(path);
+    }
+    libc::close(fd);
+    Contents {
+        is_read: got.is_read,
+        len: cut(path, got.len),
+    }
+}
+
+// Whether the open that just failed found no file; another reason is said on standard error.
+fn is_missing(path: &[u8]) -> bool {
+    if os::errno() == libc::ENOENT {
+        return true;
+    }
+    os::fail(path);
+    false
+}
+
+// Reads until the buffer is full or the file ends; not read, where a read fails.
+fn fill(fd: i32, buf: &mut [u8]) -> Contents
+    ensures { λ r. ⌜ r .«len» ≤ length (now (buf .exit)) ⌝ }
+{
+    let mut done: usize = 0;
+    while done < buf.len() {
+        let more = read_more(fd, buf, done);
+        if !more.is_read {
+            return Contents {
+                is_read: false,
+                len: 0,
+            };
+        }
+        if more.len == 0 {
+            break;
+        }
+        done += more.len;
+    }
+    Contents {
+        is_read: true,
+        len: done,
+    }
+}
+
+// One read into the buffer, behind the bytes that are done.
+fn read_more(fd: i32, buf: &mut [u8], done: usize) -> Contents
+    requires { ⌜ done ≤ length (now buf) ⌝ }
+    ensures { λ r. ⌜ done + r .«len» ≤ length (now (buf .entry)) ⌝ }
+{
+    let part = &mut buf[done..];
+    let got = libc::read(fd, part);
+    Contents {
+        is_read: got >= 0,
+        len: io::count(got, part),
+    }
+}
+
+// How many of the bytes that were read count: at most LIMIT. Where there are more, standard error says so.
+fn cut(path: &[u8], len: usize) -> usize
+    ensures { λ r. ⌜ r ≡ min len 65536 ⌝ }
+{
+    if len <= LIMIT {
+        return len;
+    }
+    io::write_all(STDERR_FILENO, path);
+    io::write_all(
+        STDERR_FILENO,
+        b": more than 65,536 bytes; the rest is not read\n",
+    );
+    LIMIT
+}
+
+// Writes the report: 0, or 1 where that fails, be it only as the output is closed; standard error then says so.
+fn print_report(report: &[u8]) -> i32 {
+    if !io::write_all(STDOUT_FILENO, report) {
+        os::fail(b"standard output");
+        return 1;
+    }
+    if libc::close(STDOUT_FILENO) < 0 {
+        os::fail(b"standard output");
+        return 1;
+    }
+    0
+}
