@@ -1,6 +1,6 @@
 #!/usr/bin/env bash
 # What a runner program says when something goes wrong: its status, standard output and standard error, case by case.
-# Fails at the first difference. Usage: runner.sh [RUNNER]
+# Fails at the first difference. Usage: runner.sh [RUNNER [STATUS]]
 set -eu
 
 runner=${1:-"$(dirname "$0")/../target/bin/runner"}
@@ -15,8 +15,8 @@ trap 'rm -rf "$folder"' EXIT
 cp "$runner" "$folder/runner"
 chmod 755 "$folder" "$folder/runner"
 
-# The status after a failure. The kit gives a program no exit status of its own: standard error alone tells.
-failed=0
+# The status after a failure: 1 of the C program, 0 of a program of the kit, which has no exit status of its own.
+failed=${2:-0}
 
 case_a='events 2 rules 2
 0 done

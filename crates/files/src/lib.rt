@@ -6,6 +6,7 @@ ghost use Prim.Native.Nat.{_+_, _≤_, min};
 ghost use mathlib.Core.Path.{_≡_};
 ghost use lib.ListN.{length};
 ghost use Rattle.io.specs.Counts.{Counts};
+ghost use Rattle.files.specs.Status.{Status};
 
 // How many bytes of a file count.
 const LIMIT: usize = 65536;
@@ -18,7 +19,9 @@ struct Contents {
 
 // Reads the two files, runs the calls and prints the report: 0, or 1 where a file or the report failed.
 #[no_mangle]
-pub extern "C" fn sinewhopa_files() -> i32 {
+pub extern "C" fn sinewhopa_files() -> i32
+    ensures { λ r. ⌜ Status r ⌝ }
+{
     // One byte more than the limit shows whether a file goes on past it.
     let mut sheet = [0u8; 65537];
     let mut calls = [0u8; 65537];
@@ -123,7 +126,9 @@ fn cut(path: &[u8], len: usize) -> usize
 }
 
 // Writes the report: 0, or 1 where that fails, be it only as the output is closed; standard error then says so.
-fn print_report(report: &[u8]) -> i32 {
+fn print_report(report: &[u8]) -> i32
+    ensures { λ r. ⌜ Status r ⌝ }
+{
     if !io::write_all(STDOUT_FILENO, report) {
         os::fail(b"standard output");
         return 1;
