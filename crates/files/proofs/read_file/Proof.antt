@@ -1,10 +1,19 @@
 -- `read_file` is safe and ends, and what counts of the file lies within the buffer and the limit.
 use native.Mathlib.Omega.{arith}
 use native.Mathlib.Nat.{min-le-left, min-le-right}
+use Prim.Native.Nat.{ℕ, _≤_, min}
+use mathlib.Core.Path.{_≡_}
+use mathlib.Core.List.{List}
+use lib.ListN.{length}
+use Rattle.io.specs.Counts.{Counts}
 use Rattle.io.proofs.Counting.{counts}
 use borrow.Author.Needs.{needs}
 use Rattle.files.proofs.read_file.Statement.{statement}
 use Rattle.files.proofs.read_file.Tie as tie
+
+-- what the limit leaves of the bytes that were read
+limited : (r n : ℕ) (xs : List ℕ) → r ≡ min n 65536 → n ≤ length xs → Counts r xs × (r ≤ 65536)
+limited r n xs is fits = (counts r xs (omega (arith, is, min-le-left n 65536, fits)), omega (arith, is, min-le-right n 65536))
 
 open-read-requires : tie.Need-open-read-requires
 open-read-requires c κs = search needs
@@ -31,10 +40,7 @@ same-length : tie.Need-same-length
 same-length c = search needs
 
 returns-2 : tie.Need-returns-2
-returns-2 c = (
-  counts _ _ (omega (arith, c .cut .ensures, min-le-left (c .before .before .before .before .before .before .fill .result .«len») 65536, c .before .before .before .before .before .before .fill .ensures)),
-  omega (arith, c .cut .ensures, min-le-right (c .before .before .before .before .before .before .fill .result .«len») 65536),
-)
+returns-2 c = limited _ _ _ (c .cut .ensures) (c .before .before .before .before .before .before .fill .ensures)
 
 pub read-file-spec : {M : Type 1} → statement M
 read-file-spec =
