@@ -1,12 +1,10 @@
 // Events: their attributes, and what may be said of one with its fate.
 use super::fate::Fate;
 use super::fate::is_held;
-use super::fate::is_open;
-use super::mark::is_closed_in;
 ghost use mathlib.Core.Path.{_≡_};
-ghost use mathlib.Core.Bool.{false, not, _&&_};
+ghost use mathlib.Core.Bool.{not, _&&_};
 ghost use Rattle.plan.specs.Base.{readAt};
-ghost use Rattle.plan.specs.Fates.{isOpen, isHeld};
+ghost use Rattle.plan.specs.Fates.{isHeld};
 ghost use Rattle.plan.specs.Plans.{blankEvent, holdsBit};
 ghost use Rattle.plan.specs.Rules.{badStep, badAttributes};
 
@@ -68,11 +66,4 @@ pub fn may_be_held(event: Event, fate: Fate) -> bool
     ensures { λ r. ⌜ r ≡ not (isHeld fate && not (holdsBit 4 (event .attributes))) ⌝ }
 {
     !(is_held(fate) & !is_delayable(event.attributes))
-}
-
-// An open event's step is not closed.
-pub fn may_be_open(event: Event, fate: Fate, closed: [bool; 8]) -> bool
-    ensures { λ r. ⌜ r ≡ not (isOpen fate && readAt 8 closed (event .step) false) ⌝ }
-{
-    !(is_open(fate) & is_closed_in(closed, event.step))
 }

@@ -24,6 +24,7 @@ use Rattle.scheduler.specs.Coherent.{coherentEvent, coherentRule, coherent}
 use Rattle.scheduler.specs.Answers.{callRows, callFault, accept, call}
 use Rattle.plan.proofs.Tests.{count-zero, clash, either, and-left, and-right, and-not, all-at, count-more}
 use Rattle.plan.proofs.Tables.{none-applies, no-row}
+use Rattle.plan.proofs.Lines.{fates-same}
 use Rattle.scheduler.proofs.Branches.{submit-same, call-fault, call-accept}
 use Rattle.theory.proofs.Conjunctions.{and-three, and-four}
 use Rattle.theory.proofs.SoundPlans.{Sound}
@@ -32,29 +33,6 @@ use Rattle.theory.proofs.RuleInvariant.{Quiet, unpaid, done-listed, nee
 use Rattle.theory.proofs.Invariant.{Invariant, close-keeps, finish-keeps}
 use Rattle.theory.proofs.Submission.{submit-keeps}
 use Rattle.theory.proofs.InvariantCoherent.{invariant-coherent}
-
--- fates that test the same are the same
-abbrev fateAt : ℕ → Fate
-fateAt n = getD (Open ∷ Held ∷ Done ∷ Refused ∷ Lapsed ∷ []) n Open
-
-fate-number : (x : Fate) → fateAt (fateNumber x) ≡ x
-fate-number Open = refl
-fate-number Held = refl
-fate-number Done = refl
-fate-number Refused = refl
-fate-number Lapsed = refl
-
-fate-same : (x y : Fate) → sameFate x y ≡ true → x ≡ y
-fate-same x y h = sym (fate-number x) ∙ ap fateAt (eqb-true (fateNumber x) (fateNumber y) h) ∙ fate-number y
-
-fates-same : (xs ys : List Fate) → sameFates xs ys ≡ true → xs ≡ ys
-unfolding sameFates
-fates-same [] [] h = refl
-fates-same [] (y ∷ ys) h = absurd (clash h refl)
-fates-same (x ∷ xs) [] h = absurd (clash h refl)
-fates-same (x ∷ xs) (y ∷ ys) h =
-    ap₂ (λ a l. a ∷ l) (fate-same x y (and-left (sameFate x y) (sameFates xs ys) h))
-    (fates-same xs ys (and-right (sameFate x y) (sameFates xs ys) h))
 
 -- a history that names each declared event that passes the test once, and no other, has as many lines as events pass
 one-zero : (b : Bool) → oneIf b ≡ 0 → b ≡ false

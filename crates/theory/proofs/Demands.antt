@@ -49,21 +49,6 @@ pub record ListInvariant (p : Plan) (o : Observed) (s : State) : Type 0 where
   pub agrees : Agrees o s
   pub finished : wasFinished o ≡ true → (e : ℕ) → e < eventCount p → isSettled (fateOf s e) ≡ true
 
--- an array of blanks reads blank, at its end and past it
-module _ {A : Type 0} (n : ℕ) (a : A) (i : ℕ) where
-  get-blank : getD (replicate n a) i a ≡ a
-  get-blank = elim (decLt i n) [
-    | yes lt ↦ getD-replicate n i a a lt
-    | no ge ↦ List·getD-eq-default (replicate n a) a {n = i} (omega (arith, length-replicate n a))
-  ]
-
-  read-blank : readAt n (replicate n a) i a ≡ a
-  read-blank = go (ltb i n)
-    where
-      go : (t : Bool) → cond t (getD (replicate n a) i a) a ≡ a
-      go true = get-blank
-      go false = refl
-
 -- the first state
 module _ (p : Plan) (sd : Sound p) where
   all-open : (e : ℕ) → fateOf (firstState p) e ≡ Open
