@@ -1,44 +1,240 @@
--- Number 12 from the parts of a state that the code reads.
-use Prim.Native.Nat.{ℕ, _≤_}
-use borrow.Author.Tests.{not-true, not-false, leb-true}
-use mathlib.Core.Bool.{Bool, true, false, not, _&&_, _||_}
+-- Number 12 from what the code reads of a state: which events have a line, and the places of those that are done.
+use Prim.Native.Nat.{ℕ, _≤_, _<_}
+use native.Mathlib.Omega.{arith}
+use borrow.Author.Tests.{lt-ltb, ltb-false, not-true, not-false, leb-true}
+use mathlib.Core.Bool.{Bool, true, false, not, _&&_, _||_, and-false}
 use mathlib.Core.List.{List}
 use mathlib.Core.Logic.{inl, inr}
-use Rattle.plan.proofs.Tests.{clash, either}
-use mathlib.Core.Path.{_≡_, refl}
-use lib.Dec.{leb}
-use lib.ListN.{take}
-use Rattle.scheduler.specs.Prelude.{Event, Rule, Plan, Standing, Entry, State}
+use mathlib.Core.Path.{_≡_, refl, sym, _∙_, ap}
+use lib.Dec.{eqb, ltb, leb}
+use lib.ListN.{getD}
+use Rattle.scheduler.specs.Prelude.{Fate, Event, Rule, Order, Need, Conditional, RuleLine, Plan, Standing, Entry, State}
 use Rattle.plan.specs.Base.{readAt, allBelow}
-use Rattle.plan.specs.Fates.{isOpen, isHeld, fatesOf}
-use Rattle.plan.specs.Plans.{blankEvent, holdsBit, eventCount, ruleCount, ruleAt}
+use Rattle.plan.specs.Fates.{isOpen, isHeld, isDone, isGone, isSettled, blankStanding}
+use Rattle.plan.specs.Plans.{blankEvent, blankRule, holdsBit, eventCount, ruleCount, eventAt, stepOf, ruleAt, delayable}
 use Rattle.plan.specs.Rules.{badStep, badAttributes, named, enforceable, soundEvent, soundRule, owes}
-use Rattle.plan.specs.Histories.{holds, declaredOnly, listedAs}
-use Rattle.scheduler.specs.State.{brokenAt, lineCount, lines}
+use Rattle.plan.specs.Histories.{doneIn, holds, declaredOnly, listedAs}
+use Rattle.plan.specs.Listings.{Placed, placeIn, Listed}
+use Rattle.scheduler.specs.State.{fateOf, brokenAt, closedAt, lineCount, lines}
 use Rattle.scheduler.specs.Coherent.{coherentEvent, coherentRule, coherent}
+use Rattle.plan.proofs.Tests.{clash, either, and-left, and-right, and-both, all-at, all-of}
+use Rattle.plan.proofs.Arrays.{read-at}
+use Rattle.plan.proofs.Lines.{listed-done}
+use Rattle.plan.proofs.Loops.{all-fail}
+use Rattle.plan.proofs.RuleReads.{two-named, triple-named}
 
--- what it asks of an event, and of a rule
-abbrev pub eventTest : List Event → List Standing → List Bool → List Entry → ℕ → ℕ → Bool
-eventTest events standings closed history len e =
-    not (badStep (readAt 16 events e blankEvent .step)) && not (badAttributes (readAt 16 events e blankEvent .attributes))
-    && listedAs (take len history) e (fatesOf standings e)
-    && not (isHeld (fatesOf standings e) && not (holdsBit 4 (readAt 16 events e blankEvent .attributes)))
-    && not (isOpen (fatesOf standings e) && readAt 8 closed (readAt 16 events e blankEvent .step) false)
+and-fails-left : (a b : Bool) → a ≡ false → (a && b) ≡ false
+and-fails-left a b h = rw h
 
-pub event-test : (s : State) (e : ℕ)
-    → eventTest (s .plan .events) (s .standings) (s .closed) (s .history) (lineCount s) e ≡ coherentEvent s e
-unfolding coherentEvent soundEvent
-event-test s e = refl
+and-fails-right : (a b : Bool) → b ≡ false → (a && b) ≡ false
+and-fails-right a b h = rw h (and-false a)
 
-abbrev pub ruleTest : Plan → ℕ → List Standing → List Entry → ℕ → Bool → Rule → Bool
-ruleTest p count standings history len broken r =
-    (named count r && enforceable p r)
-    && (broken || (not (owes p (fatesOf standings) r) && holds (take len history) r))
+-- a held event may wait, and an open one's step is not closed
+abbrev mayBeHeld : State → ℕ → Bool
+mayBeHeld s e = not (isHeld (fateOf s e) && not (delayable (s .plan) e))
 
-pub rule-test : (s : State) (i : ℕ)
-    → ruleTest (s .plan) (eventCount (s .plan)) (s .standings) (s .history) (lineCount s) (brokenAt s i) (ruleAt (s .plan) i) ≡ coherentRule s i
-unfolding coherentRule soundRule
-rule-test s i = refl
+abbrev mayBeOpen : State → ℕ → Bool
+mayBeOpen s e = not (isOpen (fateOf s e) && closedAt s (stepOf (s .plan) e))
+
+-- what the code asks of an event v with the fate x: that it is sound; and that it is listed (b) if it is settled, may
+-- be held and may be open
+abbrev pub soundAs : Event → Bool
+soundAs v = not (badStep (v .step)) && not (badAttributes (v .attributes))
+
+abbrev pub standsAs : Event → Fate → Bool → List Bool → Bool
+standsAs v x b closed =
+    not (isSettled x && not b)
+    && not (isHeld x && not (holdsBit 4 (v .attributes)))
+    && not (isOpen x && getD closed (v .step) false)
+
+module _ (v : Event) where
+  step-low : ltb 7 (v .step) ≡ false → v .step < 8
+  step-low f = omega (arith, ltb-false 7 (v .step) f)
+
+  pub sound-step : soundAs v ≡ true → v .step < 8
+  sound-step h =
+      step-low (not-true (ltb 7 (v .step)) (and-left (not (badStep (v .step))) (not (badAttributes (v .attributes))) h))
+
+  regroup : (x : Fate) (b : Bool) (closed : List Bool)
+      → (soundAs v && standsAs v x b closed) ≡ (soundAs v && not (isSettled x && not b) && not (isHeld x && not (holdsBit 4 (v .attributes))) && not (isOpen x && readAt 8 closed (v .step) false))
+  regroup x b closed = elim (either (ltb 7 (v .step))) [
+    | inl t ↦ rw t
+    | inr t ↦ rw (t, lt-ltb (v .step) 8 (step-low t)) (go (not (badAttributes (v .attributes))) _ _ _)
+  ]
+    where
+      go : (a b c d : Bool) → (a && (b && c && d)) ≡ (a && b && c && d)
+      go true b c d = refl
+      go false b c d = refl
+
+-- the same in the arrays
+abbrev pub soundAt : List Event → ℕ → Bool
+soundAt events e = soundAs (getD events e blankEvent)
+
+abbrev pub standsAt : List Event → List Standing → List Bool → List Bool → ℕ → Bool
+standsAt events standings closed listed e =
+    standsAs (getD events e blankEvent) (getD standings e blankStanding .fate) (getD listed e false) closed
+
+abbrev pub passesAt : List Event → List Standing → List Bool → List Bool → ℕ → Bool
+passesAt events standings closed listed e = soundAt events e && standsAt events standings closed listed e
+
+pub passes-both : (events : List Event) (standings : List Standing) (closed listed : List Bool) (e : ℕ)
+    → soundAt events e ≡ true
+    → standsAt events standings closed listed e ≡ true
+    → passesAt events standings closed listed e ≡ true
+passes-both events standings closed listed e = and-both (soundAt events e) (standsAt events standings closed listed e)
+
+module _ (s : State) (listed : List Bool) (few : eventCount (s .plan) ≤ 16)
+    (told : (e : ℕ) → listedAs (lines s) e (fateOf s e) ≡ not (isSettled (fateOf s e) && not (readAt 16 listed e false))) where
+  event-test : (e : ℕ) → e < 16 → passesAt (s .plan .events) (s .standings) (s .closed) listed e ≡ coherentEvent s e
+  unfolding coherentEvent soundEvent
+  event-test e lt =
+      ap (λ v. soundAs v && standsAs v (getD (s .standings) e blankStanding .fate) (getD listed e false) (s .closed)) (sym (read-at 16 (s .plan .events) e blankEvent lt))
+      ∙ ap (λ w. soundAs (eventAt (s .plan) e) && standsAs (eventAt (s .plan) e) (w .fate) (getD listed e false) (s .closed)) (sym (read-at 16 (s .standings) e blankStanding lt))
+      ∙ ap (λ b. soundAs (eventAt (s .plan) e) && standsAs (eventAt (s .plan) e) (fateOf s e) b (s .closed)) (sym (read-at 16 listed e false lt))
+      ∙ regroup (eventAt (s .plan) e) (fateOf s e) (readAt 16 listed e false) (s .closed)
+      ∙ ap (λ t. soundAs (eventAt (s .plan) e) && t && mayBeHeld s e && mayBeOpen s e) (sym (told e))
+
+  module _ (e : ℕ) (lt : e < eventCount (s .plan)) where
+    pub event-unsound : soundAt (s .plan .events) e ≡ false → allBelow (eventCount (s .plan)) (coherentEvent s) ≡ false
+    event-unsound f =
+        all-fail (eventCount (s .plan)) (coherentEvent s) e lt (sym (event-test e (omega arith)) ∙ and-fails-left _ _ f)
+
+    pub event-wrong : standsAt (s .plan .events) (s .standings) (s .closed) listed e ≡ false
+        → allBelow (eventCount (s .plan)) (coherentEvent s) ≡ false
+    event-wrong f =
+        all-fail (eventCount (s .plan)) (coherentEvent s) e lt (sym (event-test e (omega arith)) ∙ and-fails-right (soundAt (s .plan .events) e) _ f)
+
+  pub events-pass : ((e : ℕ)
+      → e < eventCount (s .plan)
+      → passesAt (s .plan .events) (s .standings) (s .closed) listed e ≡ true)
+      → allBelow (eventCount (s .plan)) (coherentEvent s) ≡ true
+  events-pass each =
+      all-of (eventCount (s .plan)) (coherentEvent s) (λ e lt. sym (event-test e (omega arith)) ∙ each e lt)
+
+-- a rule that holds of a history that lists what is done owes nothing: d its triggers are done, x what it calls for is
+-- done, y that is gone
+paid : (d x y : Bool) → (not (d && not (x || y)) && not (d && not x)) ≡ not (d && not x)
+paid true true y = refl
+paid true false y = and-false (not (not y))
+paid false x y = refl
+
+module _ (s : State) (pass : allBelow (eventCount (s .plan)) (coherentEvent s) ≡ true) where
+  listed-as : (e : ℕ) → e < eventCount (s .plan) → doneIn (lines s) e ≡ isDone (fateOf s e)
+  unfolding coherentEvent
+  listed-as e lt =
+      listed-done (lines s) e (fateOf s e)
+      (and-right (soundEvent (s .plan) e) (listedAs (lines s) e (fateOf s e))
+      (and-left (soundEvent (s .plan) e && listedAs (lines s) e (fateOf s e)) (mayBeHeld s e)
+      (and-left (soundEvent (s .plan) e && listedAs (lines s) e (fateOf s e) && mayBeHeld s e) (mayBeOpen s e)
+      (all-at (eventCount (s .plan)) (coherentEvent s) pass e lt))))
+
+  holds-paid : (r : Rule)
+      → named (eventCount (s .plan)) r ≡ true
+      → (not (owes (s .plan) (fateOf s) r) && holds (lines s) r) ≡ holds (lines s) r
+  unfolding named owes holds
+  holds-paid (Order a b) n = refl
+  holds-paid (Need a b) n =
+      let q = two-named _ a b _ n in
+      rw (listed-as a (q .0), listed-as b (q .1)) (paid (isDone (fateOf s a)) (isDone (fateOf s b)) (isGone (fateOf s b)))
+  holds-paid (Conditional a b c) n =
+      let q = triple-named _ a b c n in
+      rw (listed-as a (q .first), listed-as b (q .second), listed-as c (q .third))
+      (paid (isDone (fateOf s a) && isDone (fateOf s b)) (isDone (fateOf s c)) (isGone (fateOf s c)))
+
+  -- so number 12 asks of a rule that it is sound, and recorded as broken or holds
+  pub rule-test : (i : ℕ)
+      → coherentRule s i ≡ (soundRule (s .plan) i && (brokenAt s i || holds (lines s) (ruleAt (s .plan) i)))
+  unfolding coherentRule soundRule
+  rule-test i = elim (either (named (eventCount (s .plan)) (ruleAt (s .plan) i))) [
+    | inl n ↦ rw (holds-paid (ruleAt (s .plan) i) n)
+    | inr n ↦ rw n
+  ]
+
+-- the same of the rule that the code reads
+abbrev pub ruleIn : List RuleLine → ℕ → Rule
+ruleIn rules i = getD rules i blankRule .rule
+
+abbrev pub admitsAt : Plan → ℕ → List RuleLine → ℕ → Bool
+admitsAt p n rules i = named n (ruleIn rules i) && enforceable p (ruleIn rules i)
+
+abbrev pub keptAt : List Entry → List Bool → List RuleLine → ℕ → Bool
+keptAt h broken rules i = getD broken i false || holds h (ruleIn rules i)
+
+pub kept-both : (p : Plan) (n : ℕ) (h : List Entry) (broken : List Bool) (rules : List RuleLine) (i : ℕ)
+    → admitsAt p n rules i ≡ true
+    → keptAt h broken rules i ≡ true
+    → (admitsAt p n rules i && keptAt h broken rules i) ≡ true
+kept-both p n h broken rules i = and-both (admitsAt p n rules i) (keptAt h broken rules i)
+
+module _ (s : State) (few : ruleCount (s .plan) ≤ 16) (pass : allBelow (eventCount (s .plan)) (coherentEvent s) ≡ true) where
+  read-rule : (i : ℕ)
+      → i < ruleCount (s .plan)
+      → (admitsAt (s .plan) (eventCount (s .plan)) (s .plan .rules) i && keptAt (lines s) (s .broken) (s .plan .rules) i) ≡ coherentRule s i
+  unfolding soundRule
+  read-rule i lt =
+      ap (λ (v : RuleLine). (named (eventCount (s .plan)) (v .rule) && enforceable (s .plan) (v .rule)) && (getD (s .broken) i false || holds (lines s) (v .rule)))
+      (sym (read-at 16 (s .plan .rules) i blankRule (omega arith)))
+      ∙ ap (λ b. soundRule (s .plan) i && (b || holds (lines s) (ruleAt (s .plan) i))) (sym (read-at 16 (s .broken) i false (omega arith)))
+      ∙ sym (rule-test s pass i)
+
+  module _ (i : ℕ) (lt : i < ruleCount (s .plan)) where
+    pub rule-unsound : admitsAt (s .plan) (eventCount (s .plan)) (s .plan .rules) i ≡ false
+        → allBelow (ruleCount (s .plan)) (coherentRule s) ≡ false
+    rule-unsound f = all-fail (ruleCount (s .plan)) (coherentRule s) i lt (sym (read-rule i lt) ∙ and-fails-left _ _ f)
+
+    pub rule-breaks : keptAt (lines s) (s .broken) (s .plan .rules) i ≡ false
+        → allBelow (ruleCount (s .plan)) (coherentRule s) ≡ false
+    rule-breaks f =
+        all-fail (ruleCount (s .plan)) (coherentRule s) i lt
+        (sym (read-rule i lt) ∙ and-fails-right (admitsAt (s .plan) (eventCount (s .plan)) (s .plan .rules) i) _ f)
+
+  pub rules-pass : ((i : ℕ)
+      → i < ruleCount (s .plan)
+      → (admitsAt (s .plan) (eventCount (s .plan)) (s .plan .rules) i && keptAt (lines s) (s .broken) (s .plan .rules) i) ≡ true)
+      → allBelow (ruleCount (s .plan)) (coherentRule s) ≡ true
+  rules-pass each = all-of (ruleCount (s .plan)) (coherentRule s) (λ i lt. sym (read-rule i lt) ∙ each i lt)
+
+-- a rule that names events with places, in each of its forms: where the events are, and what the places say
+module _ (rule : Rule) (a b : ℕ) (names : (n : ℕ) × (n ≤ 16) × (named n rule ≡ true)) where
+  pub order-inside : rule ≡ Order a b → (a < 16) × (b < 16)
+  unfolding named
+  order-inside is =
+      let q = two-named (names .0) a b (not (eqb a b)) (rw is at (names .2)) in
+      (omega (arith, q .0, names .1), omega (arith, q .1, names .1))
+
+  pub need-inside : rule ≡ Need a b → (a < 16) × (b < 16)
+  unfolding named
+  need-inside is =
+      let q = two-named (names .0) a b (not (eqb a b)) (rw is at (names .2)) in
+      (omega (arith, q .0, names .1), omega (arith, q .1, names .1))
+
+  pub conditional-inside : (c : ℕ) → rule ≡ Conditional a b c → (a < 16) × (b < 16) × (c < 16)
+  conditional-inside c is =
+      let q = triple-named (names .0) a b c (rw is at (names .2)) in
+      (omega (arith, q .first, names .1), omega (arith, q .second, names .1), omega (arith, q .third, names .1))
+
+  module _ (places : List ℕ) (h : List Entry) (p : Placed h (placeIn places)) where
+    pub order-holds : rule ≡ Order a b
+        → not (ltb 0 (getD places b 0) && ltb (getD places b 0) (getD places a 0)) ≡ holds h rule
+    unfolding holds
+    order-holds is =
+        let q = order-inside is in
+        rw (is, p .turn b a, lt-ltb b 16 (q .1), lt-ltb a 16 (q .0))
+
+    pub need-holds : rule ≡ Need a b
+        → not (ltb 0 (getD places a 0) && not (ltb 0 (getD places b 0))) ≡ holds h rule
+    unfolding holds
+    need-holds is =
+        let q = need-inside is in
+        rw (is, p .done a, p .done b, lt-ltb a 16 (q .0), lt-ltb b 16 (q .1))
+
+    pub conditional-holds : (c : ℕ)
+        → rule ≡ Conditional a b c
+        → not (ltb 0 (getD places a 0) && ltb 0 (getD places b 0) && not (ltb 0 (getD places c 0))) ≡ holds h rule
+    unfolding holds
+    conditional-holds c is =
+        let q = conditional-inside c is in
+        rw (is, p .done a, p .done b, p .done c, lt-ltb a 16 (q .0), lt-ltb b 16 (q .1), lt-ltb c 16 (q .2))
 
 -- the four tests of number 12 in turn: the first that fails decides
 module _ (s : State) where
@@ -54,21 +250,6 @@ module _ (s : State) where
   pub many-fail : not few ≡ true → coherent s ≡ false
   unfolding coherent
   many-fail h = rw (not-true few h)
-
-  pub undeclared-fail : not few ≡ false → not declared ≡ true → coherent s ≡ false
-  unfolding coherent
-  undeclared-fail f h = rw (not-false few f, not-true declared h)
-
-  pub events-fail : not few ≡ false → not declared ≡ false → not events ≡ true → coherent s ≡ false
-  unfolding coherent
-  events-fail f d h = rw (not-false few f, not-false declared d, not-true events h)
-
-  pub rules-decide : not few ≡ false
-      → not declared ≡ false
-      → not events ≡ false
-      → coherent s ≡ allBelow (ruleCount (s .plan)) (coherentRule s)
-  unfolding coherent
-  rules-decide f d h = rw (not-false few f, not-false declared d, not-false events h)
 
 -- a state that passes has at most 16 events
 pub coherent-few : (s : State) → coherent s ≡ true → eventCount (s .plan) ≤ 16
