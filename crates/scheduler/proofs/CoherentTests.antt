@@ -17,7 +17,7 @@ use Rattle.plan.specs.Histories.{doneIn, holds, declaredOnly, listedAs}
 use Rattle.plan.specs.Listings.{Placed, placeIn, Listed}
 use Rattle.scheduler.specs.State.{fateOf, brokenAt, closedAt, lineCount, lines}
 use Rattle.scheduler.specs.Coherent.{coherentEvent, coherentRule, coherent}
-use Rattle.plan.proofs.Tests.{clash, either, and-left, and-right, and-both, all-at, all-of}
+use Rattle.plan.proofs.Tests.{clash, either, and-left, and-right, and-both, and-not, all-at, all-of}
 use Rattle.plan.proofs.Arrays.{read-at}
 use Rattle.plan.proofs.Lines.{listed-done}
 use Rattle.plan.proofs.Loops.{all-fail}
@@ -118,15 +118,17 @@ paid true true y = refl
 paid true false y = and-false (not (not y))
 paid false x y = refl
 
+event-listed : (s : State) (e : ℕ) → coherentEvent s e ≡ true → listedAs (lines s) e (fateOf s e) ≡ true
+unfolding coherentEvent
+event-listed s e h =
+    and-right (soundEvent (s .plan) e) (listedAs (lines s) e (fateOf s e))
+    (and-left (soundEvent (s .plan) e && listedAs (lines s) e (fateOf s e)) (mayBeHeld s e)
+    (and-left (soundEvent (s .plan) e && listedAs (lines s) e (fateOf s e) && mayBeHeld s e) (mayBeOpen s e) h))
+
 module _ (s : State) (pass : allBelow (eventCount (s .plan)) (coherentEvent s) ≡ true) where
   listed-as : (e : ℕ) → e < eventCount (s .plan) → doneIn (lines s) e ≡ isDone (fateOf s e)
-  unfolding coherentEvent
   listed-as e lt =
-      listed-done (lines s) e (fateOf s e)
-      (and-right (soundEvent (s .plan) e) (listedAs (lines s) e (fateOf s e))
-      (and-left (soundEvent (s .plan) e && listedAs (lines s) e (fateOf s e)) (mayBeHeld s e)
-      (and-left (soundEvent (s .plan) e && listedAs (lines s) e (fateOf s e) && mayBeHeld s e) (mayBeOpen s e)
-      (all-at (eventCount (s .plan)) (coherentEvent s) pass e lt))))
+      listed-done (lines s) e (fateOf s e) (event-listed s e (all-at (eventCount (s .plan)) (coherentEvent s) pass e lt))
 
   holds-paid : (r : Rule)
       → named (eventCount (s .plan)) r ≡ true
@@ -236,7 +238,7 @@ module _ (rule : Rule) (a b : ℕ) (names : (n : ℕ) × (n ≤ 16) × (named n 
         let q = conditional-inside c is in
         rw (is, p .done a, p .done b, p .done c, lt-ltb a 16 (q .0), lt-ltb b 16 (q .1), lt-ltb c 16 (q .2))
 
--- the four tests of number 12 in turn: the first that fails decides
+-- the tests of number 12 in turn: the first that fails decides
 module _ (s : State) where
   abbrev few : Bool
   few = leb (eventCount (s .plan)) 16 && leb (ruleCount (s .plan)) 16 && leb (lineCount s) 16
@@ -250,6 +252,41 @@ module _ (s : State) where
   pub many-fail : not few ≡ true → coherent s ≡ false
   unfolding coherent
   many-fail h = rw (not-true few h)
+
+  pub few-events : not few ≡ false → eventCount (s .plan) ≤ 16
+  few-events h =
+      leb-true (eventCount (s .plan)) 16
+      (and-left (leb (eventCount (s .plan)) 16) (leb (ruleCount (s .plan)) 16)
+      (and-left (leb (eventCount (s .plan)) 16 && leb (ruleCount (s .plan)) 16) (leb (lineCount s) 16) (not-false few h)))
+
+  pub few-rules : not few ≡ false → ruleCount (s .plan) ≤ 16
+  few-rules h =
+      leb-true (ruleCount (s .plan)) 16
+      (and-right (leb (eventCount (s .plan)) 16) (leb (ruleCount (s .plan)) 16)
+      (and-left (leb (eventCount (s .plan)) 16 && leb (ruleCount (s .plan)) 16) (leb (lineCount s) 16) (not-false few h)))
+
+  pub events-fail : events ≡ false → coherent s ≡ false
+  unfolding coherent
+  events-fail f = rw (f, and-false (few && declared))
+
+  -- a history that does not go with the events
+  pub lines-fail : (declared && allBelow (eventCount (s .plan)) (λ e. listedAs (lines s) e (fateOf s e))) ≡ false
+      → coherent s ≡ false
+  unfolding coherent
+  lines-fail f = elim (either declared) [
+    | inr d ↦ rw (d, and-false few)
+    | inl d ↦ events-fail (elim (either events) [
+      | inr e ↦ e
+      | inl e ↦ absurd (clash (all-of (eventCount (s .plan)) (λ k. listedAs (lines s) k (fateOf s k)) (λ k lt. event-listed s k (all-at (eventCount (s .plan)) (coherentEvent s) e k lt))) (and-not declared _ f d))
+    ])
+  ]
+
+  pub rules-decide : not few ≡ false
+      → declared ≡ true
+      → events ≡ true
+      → coherent s ≡ allBelow (ruleCount (s .plan)) (coherentRule s)
+  unfolding coherent
+  rules-decide f d e = rw (not-false few f, d, e)
 
 -- a state that passes has at most 16 events
 pub coherent-few : (s : State) → coherent s ≡ true → eventCount (s .plan) ≤ 16

@@ -3,86 +3,64 @@ use borrow.Author.Needs.{needs}
 use Rattle.scheduler.proofs.CoherentTests.{order-inside, need-inside, conditional-inside, order-holds, need-holds, conditional-holds}
 use Rattle.scheduler.proofs.coherent.does_hold.Statement.{statement}
 use Rattle.scheduler.proofs.coherent.does_hold.Tie as tie
-use Rattle.scheduler.proofs.coherent.does_hold.Reads as reads
-use Rattle.scheduler.proofs.coherent.does_hold.Lts as lts
 
--- src/coherent.rt:114:21
 enum-known-rule : tie.Need-enum-known-rule
 enum-known-rule c = search needs
 
--- src/coherent.rt:115:32
 cast-first : tie.Need-cast-first
 cast-first c = search needs
 
--- src/coherent.rt:115:25
 array-read-first : tie.Need-array-read-first
 array-read-first c = order-inside _ _ _ (c .before .before .before .pre) (c .before .rule .given .1) .0
 
--- src/coherent.rt:116:31
 cast-last : tie.Need-cast-last
 cast-last c = search needs
 
--- src/coherent.rt:116:24
 array-read-last : tie.Need-array-read-last
 array-read-last c = order-inside _ _ _ (c .before .before .before .pre) (c .before .rule .given .1) .1
 
--- src/coherent.rt:119:20
 enum-known-rule-2 : tie.Need-enum-known-rule-2
 enum-known-rule-2 c = search needs
 
--- src/coherent.rt:119:43
 cast-result : tie.Need-cast-result
 cast-result c = search needs
 
--- src/coherent.rt:119:36
 array-read-result : tie.Need-array-read-result
 array-read-result c = need-inside _ _ _ (c .before .before .before .pre) (c .before .rule2 .given .1) .0
 
--- src/coherent.rt:119:71
 cast-result-2 : tie.Need-cast-result-2
 cast-result-2 c = search needs
 
--- src/coherent.rt:119:64
 array-read-result-2 : tie.Need-array-read-result-2
 array-read-result-2 c = need-inside _ _ _ (c .before .before .before .pre) (c .before .rule2 .given .1) .1
 
--- src/coherent.rt:120:27
 enum-known-rule-3 : tie.Need-enum-known-rule-3
 enum-known-rule-3 c = search needs
 
--- src/coherent.rt:121:27
 cast-result-3 : tie.Need-cast-result-3
 cast-result-3 c = search needs
 
--- src/coherent.rt:121:20
 array-read-result-3 : tie.Need-array-read-result-3
 array-read-result-3 c = conditional-inside _ _ _ (c .before .before .before .pre) _ (c .before .rule3 .given .1) .0
 
--- src/coherent.rt:121:54
 cast-result-4 : tie.Need-cast-result-4
 cast-result-4 c = search needs
 
--- src/coherent.rt:121:47
 array-read-result-4 : tie.Need-array-read-result-4
 array-read-result-4 c = conditional-inside _ _ _ (c .before .before .before .pre) _ (c .before .rule3 .given .1) .1
 
--- src/coherent.rt:121:82
 cast-result-5 : tie.Need-cast-result-5
 cast-result-5 c = search needs
 
--- src/coherent.rt:121:75
 array-read-result-5 : tie.Need-array-read-result-5
 array-read-result-5 c = conditional-inside _ _ _ (c .before .before .before .pre) _ (c .before .rule3 .given .1) .2
 
--- src/coherent.rt:109:1
 returns : tie.Need-returns
 returns c = λ h p. order-holds _ _ _ (c .before .before .before .pre) (c .before .before .before .args .t1) h p (c .before .rule .given .1)
 
--- src/coherent.rt:109:1
 returns-2 : tie.Need-returns-2
 returns-2 c = λ h p. need-holds _ _ _ (c .before .before .before .pre) (c .before .before .before .args .t1) h p (c .before .rule2 .given .1)
 
--- src/coherent.rt:109:1
 returns-3 : tie.Need-returns-3
 returns-3 c = λ h p. conditional-holds _ _ _ (c .before .before .before .pre) (c .before .before .before .args .t1) h p _ (c .before .rule3 .given .1)
 

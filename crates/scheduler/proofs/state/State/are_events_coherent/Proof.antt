@@ -11,12 +11,6 @@ use Rattle.plan.specs.Plans.{blankEvent}
 use Rattle.scheduler.proofs.CoherentTests.{passesAt, passes-both, sound-step, event-unsound, event-wrong, events-pass}
 use Rattle.scheduler.proofs.state.State.are_events_coherent.Statement.{statement}
 use Rattle.scheduler.proofs.state.State.are_events_coherent.Tie as tie
-use Rattle.scheduler.proofs.state.State.are_events_coherent.Reads as reads
-use Rattle.scheduler.proofs.state.State.are_events_coherent.Lts as lts
-use Rattle.plan.proofs.event.is_sound.Reads as is-sound-reads
-use Rattle.plan.proofs.event.may_be_held.Reads as may-be-held-reads
-use Rattle.plan.proofs.fate.is_open.Reads as is-open-reads
-use Rattle.plan.proofs.fate.is_settled.Reads as is-settled-reads
 
 abbrev Inv-loop : tie.InvT-loop
 Inv-loop listed event-count events standings closed i₀ i =
@@ -26,98 +20,82 @@ Inv-loop listed event-count events standings closed i₀ i =
 abbrev μ-loop : tie.MeasureT-loop
 μ-loop listed event-count events standings closed i₀ i = event-count - i
 
--- src/coherent.rt:62:9
 loop-holds : tie.Need-loop-holds Inv-loop μ-loop
 loop-holds c = (omega arith, λ k lt. absurd (omega arith))
 
--- src/coherent.rt:63:32
 cast-event : tie.Need-cast-event Inv-loop μ-loop
 cast-event c = search needs
 
--- src/coherent.rt:63:25
 mul-event : tie.Need-mul-event Inv-loop μ-loop
 mul-event c = search needs
 
--- src/coherent.rt:63:25
 array-copy-out-event : tie.Need-array-copy-out-event Inv-loop μ-loop
 array-copy-out-event c = search needs
 
--- src/coherent.rt:64:38
 cast-standing : tie.Need-cast-standing Inv-loop μ-loop
 cast-standing c = search needs
 
--- src/coherent.rt:64:28
 array-copy-out-standing : tie.Need-array-copy-out-standing Inv-loop μ-loop
 array-copy-out-standing c = search needs
 
--- src/coherent.rt:66:17
 is-sound-requires : tie.Need-is-sound-requires Inv-loop μ-loop
 is-sound-requires c κs = search needs
 
--- src/coherent.rt:67:17
 returns : tie.Need-returns Inv-loop μ-loop
 returns c =
     let s = c .before .before .before .before .before .before .before .before .before .before in
     sym (event-unsound (s .args .self) (s .args .t2) (s .pre .0) (s .pre .1) (c .before .before .before .before .before .loop .i) (c .before .before .before .before .loop-test .taken)
     (not-true _ (rw (c .before .is-sound .ensures) at (c .if1 .taken))))
 
--- src/coherent.rt:70:20
 is-settled-requires : tie.Need-is-settled-requires Inv-loop μ-loop
 is-settled-requires c κs = search needs
 
--- src/coherent.rt:70:47
 cast-if2 : tie.Need-cast-if2 Inv-loop μ-loop
 cast-if2 c = search needs
 
--- src/coherent.rt:70:40
 array-read-if2 : tie.Need-array-read-if2 Inv-loop μ-loop
 array-read-if2 c = search needs
 
--- src/coherent.rt:71:19
 may-be-held-requires : tie.Need-may-be-held-requires Inv-loop μ-loop
 may-be-held-requires c κs = search needs
 
--- src/coherent.rt:72:21
 is-open-requires : tie.Need-is-open-requires Inv-loop μ-loop
 is-open-requires c κs = search needs
 
--- src/coherent.rt:72:44
 cast-if2-2 : tie.Need-cast-if2-2 Inv-loop μ-loop
 cast-if2-2 c =
-    omega (arith, sound-step (getD (c .before .before .before .before .before .before .before .before .before .before .before .before .before .args .self .plan .events) (c .before .before .before .before .before .before .before .before .loop .i) blankEvent)
-    (not-false _ (rw (c .before .before .before .before .is-sound .ensures) at (c .before .before .before .if1 .left))))
+    omega (
+      arith,
+      sound-step (getD (c .before .before .before .before .before .before .before .before .before .before .before .before .before .args .self .plan .events) (c .before .before .before .before .before .before .before .before .loop .i) blankEvent)
+          (not-false _ (rw (c .before .before .before .before .is-sound .ensures) at (c .before .before .before .if1 .left))),
+    )
 
--- src/coherent.rt:72:37
 array-read-if2-2 : tie.Need-array-read-if2-2 Inv-loop μ-loop
 array-read-if2-2 c =
     sound-step (getD (c .before .before .before .before .before .before .before .before .before .before .before .before .before .args .self .plan .events) (c .before .before .before .before .before .before .before .before .loop .i) blankEvent)
     (not-false _ (rw (c .before .before .before .before .is-sound .ensures) at (c .before .before .before .if1 .left)))
 
--- src/coherent.rt:73:17
 returns-2 : tie.Need-returns-2 Inv-loop μ-loop
 returns-2 c =
     let s = c .before .before .before .before .before .before .before .before .before .before .before .before .before .before in
     sym (event-wrong (s .args .self) (s .args .t2) (s .pre .0) (s .pre .1) (c .before .before .before .before .before .before .before .before .before .loop .i) (c .before .before .before .before .before .before .before .before .loop-test .taken)
     (not-true _ (rw (c .before .before .before .is-settled .ensures, c .before .before .may-be-held .ensures, c .before .is-open .ensures) at (c .if2 .taken))))
 
--- src/coherent.rt:75:13
 add-i : tie.Need-add-i Inv-loop μ-loop
 add-i c = search needs
 
--- src/coherent.rt:62:9
 loop-less : tie.Need-loop-less Inv-loop μ-loop
 loop-less c = search needs
 
--- src/coherent.rt:62:9
 loop-again : tie.Need-loop-again Inv-loop μ-loop
 loop-again c =
     let s = c .before .before .before .before .before .before .before .before .before .before .before .before .before .before in
     let i = c .before .before .before .before .before .before .before .before .before .loop in (
       omega arith,
       below-more _ _ (i .inv .1)
-      (passes-both (s .args .self .plan .events) (s .args .self .standings) (s .args .self .closed) (s .args .t2) (i .i)
-      (not-false _ (rw (c .before .before .before .before .before .is-sound .ensures) at (c .before .before .before .before .if1 .left)))
-      (not-false _ (rw (c .before .before .before .is-settled .ensures, c .before .before .may-be-held .ensures, c .before .is-open .ensures) at (c .if2 .left)))),
+          (passes-both (s .args .self .plan .events) (s .args .self .standings) (s .args .self .closed) (s .args .t2) (i .i)
+          (not-false _ (rw (c .before .before .before .before .before .is-sound .ensures) at (c .before .before .before .before .if1 .left)))
+          (not-false _ (rw (c .before .before .before .is-settled .ensures, c .before .before .may-be-held .ensures, c .before .is-open .ensures) at (c .if2 .left)))),
     )
 
 returns-3 : tie.Need-returns-3 Inv-loop μ-loop

@@ -7,16 +7,15 @@ use borrow.Author.Tests.{not-true, not-false}
 use mathlib.Core.Bool.{true, _&&_}
 use mathlib.Core.List.{List}
 use mathlib.Core.Path.{_≡_, refl, sym}
+use Rattle.plan.specs.Plans.{eventCount}
+use Rattle.plan.specs.Rules.{enforceable}
 use Rattle.plan.specs.Listings.{Placed, placeIn}
 use Rattle.plan.proofs.Tests.{and-left}
 use Rattle.scheduler.specs.Prelude.{Plan, Entry}
-use Rattle.scheduler.proofs.CoherentTests.{admitsAt, keptAt, kept-both, rule-unsound, rule-breaks, rules-pass}
+use Rattle.scheduler.specs.State.{lines}
+use Rattle.scheduler.proofs.CoherentTests.{ruleIn, admitsAt, keptAt, kept-both, rule-unsound, rule-breaks, rules-pass}
 use Rattle.scheduler.proofs.state.State.are_rules_coherent.Statement.{statement}
 use Rattle.scheduler.proofs.state.State.are_rules_coherent.Tie as tie
-use Rattle.scheduler.proofs.state.State.are_rules_coherent.Reads as reads
-use Rattle.scheduler.proofs.state.State.are_rules_coherent.Lts as lts
-use Rattle.plan.proofs.rule.is_admitted.Reads as is-admitted-reads
-use Rattle.scheduler.proofs.coherent.does_hold.Reads as does-hold-reads
 
 abbrev Inv-loop : tie.InvT-loop
 Inv-loop places event-count rule-count events rules broken i₀ i =
@@ -31,61 +30,71 @@ Inv-loop places event-count rule-count events rules broken i₀ i =
 abbrev μ-loop : tie.MeasureT-loop
 μ-loop places event-count rule-count events rules broken i₀ i = rule-count - i
 
--- src/coherent.rt:93:9
 loop-holds : tie.Need-loop-holds Inv-loop μ-loop
 loop-holds c = (omega arith, λ p h same placed k lt. absurd (omega arith))
 
--- src/coherent.rt:94:30
 cast-line : tie.Need-cast-line Inv-loop μ-loop
 cast-line c = search needs
 
--- src/coherent.rt:94:24
 mul-line : tie.Need-mul-line Inv-loop μ-loop
 mul-line c = search needs
 
--- src/coherent.rt:94:24
 array-copy-out-line : tie.Need-array-copy-out-line Inv-loop μ-loop
 array-copy-out-line c = search needs
 
--- src/coherent.rt:96:17
 is-admitted-requires : tie.Need-is-admitted-requires Inv-loop μ-loop
 is-admitted-requires c κs = search needs
 
--- src/coherent.rt:97:17
 returns : tie.Need-returns Inv-loop μ-loop
-returns c = ?
+returns c =
+    let s = c .before .before .before .before .before .before .before .before .before in
+    sym (rule-unsound (s .args .self) (s .pre .1) (s .pre .3) (c .before .before .before .before .loop .i) (c .before .before .before .loop-test .taken)
+    (not-true _ (rw (c .before .is-admitted .ensures (s .args .self .plan) refl) at (c .if1 .taken))))
 
--- src/coherent.rt:99:25
 cast-if2 : tie.Need-cast-if2 Inv-loop μ-loop
 cast-if2 c = search needs
 
--- src/coherent.rt:99:18
 array-read-if2 : tie.Need-array-read-if2 Inv-loop μ-loop
 array-read-if2 c = search needs
 
--- src/coherent.rt:99:39
 does-hold-requires : tie.Need-does-hold-requires Inv-loop μ-loop
-does-hold-requires c κs = ?
+does-hold-requires c κs =
+    let s = c .before .before .before .before .before .before .before .before .before in (
+      eventCount (s .args .self .plan),
+      s .pre .0,
+      and-left _ (enforceable (s .args .self .plan) (ruleIn (s .args .self .plan .rules) (c .before .before .before .before .loop .i)))
+          (not-false _ (rw (c .before .is-admitted .ensures (s .args .self .plan) refl) at (c .if1 .left))),
+    )
 
--- src/coherent.rt:100:17
 returns-2 : tie.Need-returns-2 Inv-loop μ-loop
-returns-2 c = ?
+returns-2 c =
+    let s = c .before .before .before .before .before .before .before .before .before .before .before in
+    sym (rule-breaks (s .args .self) (s .pre .1) (s .pre .3) (c .before .before .before .before .before .before .loop .i) (c .before .before .before .before .before .loop-test .taken)
+    (not-true _ (rw (c .before .does-hold .ensures (lines (s .args .self)) (s .pre .2)) at (c .if2 .taken))))
 
--- src/coherent.rt:102:13
 add-i : tie.Need-add-i Inv-loop μ-loop
 add-i c = search needs
 
--- src/coherent.rt:93:9
 loop-less : tie.Need-loop-less Inv-loop μ-loop
 loop-less c = search needs
 
--- src/coherent.rt:93:9
 loop-again : tie.Need-loop-again Inv-loop μ-loop
-loop-again c = ?
+loop-again c =
+    let s = c .before .before .before .before .before .before .before .before .before .before .before in
+    let i = c .before .before .before .before .before .before .loop in (
+      omega arith,
+      λ p h same placed.
+          below-more _ _ (i .inv .1 p h same placed)
+          (kept-both p (eventCount (s .args .self .plan)) h (s .args .self .broken) (s .args .self .plan .rules) (i .i)
+          (not-false _ (rw (c .before .before .before .is-admitted .ensures p same) at (c .before .before .if1 .left)))
+          (not-false _ (rw (c .before .does-hold .ensures h placed) at (c .if2 .left)))),
+    )
 
--- src/coherent.rt:82:5
 returns-3 : tie.Need-returns-3 Inv-loop μ-loop
-returns-3 c = ?
+returns-3 c =
+    let s = c .before .before .before .before .before .before in
+    sym (rules-pass (s .args .self) (s .pre .1) (s .pre .3)
+    (λ k lt. c .before .loop .inv .1 (s .args .self .plan) (lines (s .args .self)) refl (s .pre .2) k (omega arith)))
 
 pub are-rules-coherent-spec : {M : Type 1} → statement M
 are-rules-coherent-spec =
