@@ -10,7 +10,7 @@ use mathlib.Core.Path.{_≡_, refl, sym, _∙_, ap}
 use lib.Dec.{eqb, ltb, leb}
 use lib.ListN.{length, take, drop, getD, set, replicate, length-set, length-replicate}
 use Rattle.plan.specs.Prelude.{Fate, Open, Standing, Entry}
-use Rattle.plan.specs.Base.{allBelow, readAt}
+use Rattle.plan.specs.Base.{readAt}
 use Rattle.plan.specs.Fates.{Fates, isDone, isSettled, sameFate, fateNumber, blankStanding, fatesOf}
 use Rattle.plan.specs.Histories.{blankEntry, fateIf, fatesIn, anyDone, doneIn, doneInTurn, declaredOnly, sameFates, listedAs}
 use Rattle.plan.specs.Listings.{Placed, placeIn, Told, Listed}

@@ -1,5 +1,5 @@
 -- What one pass over the lines of a history tells of its events.
-use Rattle.plan.specs.Prelude.{ℕ, Bool, true, false, not, _&&_, List, _≡_, ltb, Entry, Listing}
+use Rattle.plan.specs.Prelude.{ℕ, true, false, not, _&&_, List, _≡_, ltb, Entry, Listing}
 use Rattle.plan.specs.Base.{allBelow, readAt}
 use Rattle.plan.specs.Fates.{Fates, isSettled}
 use Rattle.plan.specs.Histories.{doneIn, doneInTurn, declaredOnly, listedAs}

@@ -14,7 +14,7 @@ use Rattle.plan.specs.Fates.{isOpen, isHeld, isDone, isGone, isSettled, blankSt
 use Rattle.plan.specs.Plans.{blankEvent, blankRule, holdsBit, eventCount, ruleCount, eventAt, stepOf, ruleAt, delayable}
 use Rattle.plan.specs.Rules.{badStep, badAttributes, named, enforceable, soundEvent, soundRule, owes}
 use Rattle.plan.specs.Histories.{doneIn, holds, declaredOnly, listedAs}
-use Rattle.plan.specs.Listings.{Placed, placeIn, Listed}
+use Rattle.plan.specs.Listings.{Placed, placeIn}
 use Rattle.scheduler.specs.State.{fateOf, brokenAt, closedAt, lineCount, lines}
 use Rattle.scheduler.specs.Coherent.{coherentEvent, coherentRule, coherent}
 use Rattle.plan.proofs.Tests.{clash, either, and-left, and-right, and-both, and-not, all-at, all-of}

@@ -3,22 +3,22 @@
 use Prim.Native.Nat.{ℕ, suc, _≤_, _<_}
 use native.Mathlib.Omega.{arith}
 use native.Mathlib.Decide.{ℕ-discrete}
-use borrow.Author.Tests.{eqb-true, eq-eqb, ne-eqb, ltb-true, leb-true, leb-false, not-true, not-false}
+use borrow.Author.Tests.{eq-eqb, ne-eqb, ltb-true, leb-true, leb-false, not-true, not-false}
 use mathlib.Core.Bool.{Bool, true, false, not, _&&_, _||_}
 use mathlib.Core.List.{List, [], _∷_}
 use mathlib.Core.Logic.{_≢_, _↔_, inl, inr}
 use mathlib.Core.Option.{Option, none, some}
-use mathlib.Core.Path.{_≡_, refl, sym, _∙_, ap, ap₂, subst}
+use mathlib.Core.Path.{_≡_, refl, sym, _∙_, ap, subst}
 use lib.Dec.{eqb, ltb, leb}
-use lib.ListN.{length, getD}
+use lib.ListN.{length}
 use lib.Seq.{length-take-le}
 use Rattle.theory.proofs.Types.{Fate, Open, Held, Done, Refused, Lapsed, Rule, Order, Need, Conditional, Plan, Entry, State, CallFault, Incoherent, TurnedDown, Reply, Call, Submit, Close, Finish}
 use Rattle.plan.specs.Base.{allBelow, oneIf, countBelow}
 use Rattle.plan.specs.Plans.{eventCount, ruleCount, stepOf, ruleAt, delayable}
 use Rattle.scheduler.specs.State.{fateOf, brokenAt, closedAt, lineCount, lines, Sized}
-use Rattle.plan.specs.Fates.{fateNumber, sameFate, isOpen, isHeld, isDone, isGone, isSettled}
+use Rattle.plan.specs.Fates.{isOpen, isHeld, isDone, isGone, isSettled}
 use Rattle.plan.specs.Rules.{soundEvent, soundRule, owes}
-use Rattle.plan.specs.Histories.{fateIf, fatesIn, doneIn, doneInTurn, holds, declaredOnly, sameFates, listedAs}
+use Rattle.plan.specs.Histories.{fateIf, fatesIn, doneIn, doneInTurn, holds, declaredOnly, listedAs}
 use Rattle.plan.specs.Faults.{isTurnedDown}
 use Rattle.scheduler.specs.Coherent.{coherentEvent, coherentRule, coherent}
 use Rattle.scheduler.specs.Answers.{callRows, callFault, accept, call}

@@ -3,24 +3,24 @@
 use Prim.Native.Nat.{ℕ, _<_}
 use native.Mathlib.Omega.{arith}
 use native.Mathlib.Decide.{ℕ-discrete}
-use borrow.Author.Tests.{eq-eqb, ne-eqb, eqb-true, ltb-true, not-true, not-false}
+use borrow.Author.Tests.{eq-eqb, ne-eqb, eqb-true, not-true, not-false}
 use mathlib.Core.Bool.{Bool, true, false, not, _&&_, _||_, and-true, and-false, or-false}
 use mathlib.Core.List.{List, [], _∷_, _++_}
 use mathlib.Core.Logic.{inl, inr}
 use mathlib.Core.Path.{_≡_, refl, sym, _∙_, ap}
-use lib.Dec.{eqb, ltb}
+use lib.Dec.{eqb}
 use Rattle.theory.proofs.Types.{Fate, Open, Held, Done, Refused, Lapsed, Rule, Order, Need, Conditional, Plan, Entry, State}
 use Rattle.plan.specs.Base.{anyBelow}
 use Rattle.plan.specs.Plans.{eventCount, ruleCount, ruleAt, delayable}
 use Rattle.scheduler.specs.State.{fateOf, brokenAt, lines, settleAs}
 use Rattle.plan.specs.Fates.{isDone, isGone, isSettled}
 use Rattle.plan.specs.Rules.{named, bars, makesWait, forbids, owes, ready}
-use Rattle.plan.specs.Histories.{fateIf, anyDone, fatesIn, doneIn, doneInTurn}
+use Rattle.plan.specs.Histories.{doneIn, doneInTurn}
 use Rattle.scheduler.specs.Rules.{forbidden, owing}
 use Rattle.scheduler.specs.Orders.{doOne, mayDo}
 use Rattle.scheduler.specs.Demand.{unbreakable}
-use Rattle.plan.proofs.Tests.{clash, either, or-left, or-right, or-both, and-left, and-right, and-both, and-not, any-false}
-use Rattle.plan.proofs.Lines.{doneIn-append, turn-append, done-settled-if}
+use Rattle.plan.proofs.Tests.{clash, either, or-left, or-right, or-both, and-right, and-both, and-not, any-false}
+use Rattle.plan.proofs.Lines.{turn-append, done-settled-if}
 use Rattle.plan.proofs.RuleReads.{two-named, ThreeNamed, triple-named}
 use Rattle.scheduler.proofs.Laws.{fate-settle-other, broken-settle}
 use Rattle.scheduler.proofs.Searching.{ready-unsettled}
