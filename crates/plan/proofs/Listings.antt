@@ -66,7 +66,7 @@ module _ (h : List Entry) (l : Entry) (place : ℕ → ℕ) (p : Placed h place)
     turn-next a b = elim (ℕ-discrete a (l .event)) [
       | yes q ↦ rw (q, before b, fresh, last b) (sym (and-false (ltb 0 (next (l .event)))))
       | no ne ↦ elim (ℕ-discrete b (l .event)) [
-        | yes q ↦ rw (q, after a, eq-eqb (l .event) (l .event) refl, is, first a ne, other a ne, and-true, and-true) (p .done a)
+        | yes q ↦ rw (q, after a, eq-eqb (l .event) (l .event) refl, is, first a ne, other a ne, and-true (doneIn h a), and-true (ltb 0 (place a))) (p .done a)
         | no nb ↦ rw (ne-eqb (l .event) b (λ q. nb (sym q)), other a ne, other b nb, and-false, or-false) (p .turn a b)
       ]
     ]
@@ -223,7 +223,8 @@ module _ (history : List Entry) (len count : ℕ) (standings : List Standing) wh
           → listedAs (take len history) (l .event) (fatesOf standings (l .event)) ≡ false
       wrong-listed x b fate has w =
           ap (λ ls. listedAs ls (l .event) (fatesOf standings (l .event))) cut
-          ∙ wrong-line (take i (take len history)) (drop (i + 1) (take len history)) l (fatesOf standings (l .event)) (readAt 16 listed (l .event) false) (t .passed .fates (l .event)) (rw (fate, has) w)
+          ∙ wrong-line (take i (take len history)) (drop (i + 1) (take len history)) l (fatesOf standings (l .event))
+          (readAt 16 listed (l .event) false) (t .passed .fates (l .event)) (rw (fate, has) w)
 
       pub turn-undeclared : (leb 16 (l .event) || leb count (l .event)) ≡ true
           → Listed (take len history) count (fatesOf standings) (record { ok = false; listed = listed; places = places })

@@ -36,16 +36,16 @@ mayBeHeld s e = not (isHeld (fateOf s e) && not (delayable (s .plan) e))
 abbrev mayBeOpen : State → ℕ → Bool
 mayBeOpen s e = not (isOpen (fateOf s e) && closedAt s (stepOf (s .plan) e))
 
--- what the code asks of an event v with the fate x: that it is sound; and that it is listed (b) if it is settled, may
--- be held and may be open
-abbrev pub soundAs : Event → Bool
+-- what the code asks of an event v with the fate x: that it is sound, and not wrong: settled and not listed (b), held
+-- and not delayable, or open in a closed step
+abbrev soundAs : Event → Bool
 soundAs v = not (badStep (v .step)) && not (badAttributes (v .attributes))
 
-abbrev pub standsAs : Event → Fate → Bool → List Bool → Bool
-standsAs v x b closed =
-    not (isSettled x && not b)
-    && not (isHeld x && not (holdsBit 4 (v .attributes)))
-    && not (isOpen x && getD closed (v .step) false)
+abbrev wrongAs : Event → Fate → Bool → List Bool → Bool
+wrongAs v x b closed =
+    (isSettled x && not b)
+    || not (not (isHeld x && not (holdsBit 4 (v .attributes))))
+    || (isOpen x && getD closed (v .step) false)
 
 module _ (v : Event) where
   step-low : ltb 7 (v .step) ≡ false → v .step < 8
@@ -56,41 +56,48 @@ module _ (v : Event) where
       step-low (not-true (ltb 7 (v .step)) (and-left (not (badStep (v .step))) (not (badAttributes (v .attributes))) h))
 
   regroup : (x : Fate) (b : Bool) (closed : List Bool)
-      → (soundAs v && standsAs v x b closed) ≡ (soundAs v && not (isSettled x && not b) && not (isHeld x && not (holdsBit 4 (v .attributes))) && not (isOpen x && readAt 8 closed (v .step) false))
+      → (soundAs v && not (wrongAs v x b closed)) ≡ (soundAs v && not (isSettled x && not b) && not (isHeld x && not (holdsBit 4 (v .attributes))) && not (isOpen x && readAt 8 closed (v .step) false))
   regroup x b closed = elim (either (ltb 7 (v .step))) [
     | inl t ↦ rw t
-    | inr t ↦ rw (t, lt-ltb (v .step) 8 (step-low t)) (go (not (badAttributes (v .attributes))) _ _ _)
+    | inr t ↦ rw (t, lt-ltb (v .step) 8 (step-low t))
+        (go (not (badAttributes (v .attributes))) (isSettled x && not b) (not (isHeld x && not (holdsBit 4 (v .attributes)))) (isOpen x && getD closed (v .step) false))
   ]
     where
-      go : (a b c d : Bool) → (a && (b && c && d)) ≡ (a && b && c && d)
-      go true b c d = refl
-      go false b c d = refl
+      go : (s a h o : Bool) → (s && not (a || not h || o)) ≡ (s && not a && h && not o)
+      go true true h o = refl
+      go true false true o = refl
+      go true false false o = refl
+      go false a h o = refl
 
 -- the same in the arrays
-abbrev pub soundAt : List Event → ℕ → Bool
+abbrev soundAt : List Event → ℕ → Bool
 soundAt events e = soundAs (getD events e blankEvent)
 
-abbrev pub standsAt : List Event → List Standing → List Bool → List Bool → ℕ → Bool
-standsAt events standings closed listed e =
-    standsAs (getD events e blankEvent) (getD standings e blankStanding .fate) (getD listed e false) closed
+abbrev wrongAt : List Event → List Standing → List Bool → List Bool → ℕ → Bool
+wrongAt events standings closed listed e =
+    wrongAs (getD events e blankEvent) (getD standings e blankStanding .fate) (getD listed e false) closed
 
 abbrev pub passesAt : List Event → List Standing → List Bool → List Bool → ℕ → Bool
-passesAt events standings closed listed e = soundAt events e && standsAt events standings closed listed e
+passesAt events standings closed listed e = soundAt events e && not (wrongAt events standings closed listed e)
 
 pub passes-both : (events : List Event) (standings : List Standing) (closed listed : List Bool) (e : ℕ)
     → soundAt events e ≡ true
-    → standsAt events standings closed listed e ≡ true
+    → wrongAt events standings closed listed e ≡ false
     → passesAt events standings closed listed e ≡ true
-passes-both events standings closed listed e = and-both (soundAt events e) (standsAt events standings closed listed e)
+passes-both events standings closed listed e sound right =
+    and-both (soundAt events e) (not (wrongAt events standings closed listed e)) sound (ap not right)
 
 module _ (s : State) (listed : List Bool) (few : eventCount (s .plan) ≤ 16)
     (told : (e : ℕ) → listedAs (lines s) e (fateOf s e) ≡ not (isSettled (fateOf s e) && not (readAt 16 listed e false))) where
   event-test : (e : ℕ) → e < 16 → passesAt (s .plan .events) (s .standings) (s .closed) listed e ≡ coherentEvent s e
   unfolding coherentEvent soundEvent
   event-test e lt =
-      ap (λ v. soundAs v && standsAs v (getD (s .standings) e blankStanding .fate) (getD listed e false) (s .closed)) (sym (read-at 16 (s .plan .events) e blankEvent lt))
-      ∙ ap (λ w. soundAs (eventAt (s .plan) e) && standsAs (eventAt (s .plan) e) (w .fate) (getD listed e false) (s .closed)) (sym (read-at 16 (s .standings) e blankStanding lt))
-      ∙ ap (λ b. soundAs (eventAt (s .plan) e) && standsAs (eventAt (s .plan) e) (fateOf s e) b (s .closed)) (sym (read-at 16 listed e false lt))
+      ap (λ v. soundAs v && not (wrongAs v (getD (s .standings) e blankStanding .fate) (getD listed e false) (s .closed)))
+      (sym (read-at 16 (s .plan .events) e blankEvent lt))
+      ∙ ap (λ w. soundAs (eventAt (s .plan) e) && not (wrongAs (eventAt (s .plan) e) (w .fate) (getD listed e false) (s .closed)))
+      (sym (read-at 16 (s .standings) e blankStanding lt))
+      ∙ ap (λ b. soundAs (eventAt (s .plan) e) && not (wrongAs (eventAt (s .plan) e) (fateOf s e) b (s .closed)))
+      (sym (read-at 16 listed e false lt))
       ∙ regroup (eventAt (s .plan) e) (fateOf s e) (readAt 16 listed e false) (s .closed)
       ∙ ap (λ t. soundAs (eventAt (s .plan) e) && t && mayBeHeld s e && mayBeOpen s e) (sym (told e))
 
@@ -99,10 +106,10 @@ module _ (s : State) (listed : List Bool) (few : eventCount (s .plan) ≤ 16)
     event-unsound f =
         all-fail (eventCount (s .plan)) (coherentEvent s) e lt (sym (event-test e (omega arith)) ∙ and-fails-left _ _ f)
 
-    pub event-wrong : standsAt (s .plan .events) (s .standings) (s .closed) listed e ≡ false
+    pub event-wrong : wrongAt (s .plan .events) (s .standings) (s .closed) listed e ≡ true
         → allBelow (eventCount (s .plan)) (coherentEvent s) ≡ false
     event-wrong f =
-        all-fail (eventCount (s .plan)) (coherentEvent s) e lt (sym (event-test e (omega arith)) ∙ and-fails-right (soundAt (s .plan .events) e) _ f)
+        all-fail (eventCount (s .plan)) (coherentEvent s) e lt (sym (event-test e (omega arith)) ∙ and-fails-right (soundAt (s .plan .events) e) _ (ap not f))
 
   pub events-pass : ((e : ℕ)
       → e < eventCount (s .plan)
@@ -144,7 +151,7 @@ module _ (s : State) (pass : allBelow (eventCount (s .plan)) (coherentEvent s) �
       (paid (isDone (fateOf s a) && isDone (fateOf s b)) (isDone (fateOf s c)) (isGone (fateOf s c)))
 
   -- so number 12 asks of a rule that it is sound, and recorded as broken or holds
-  pub rule-test : (i : ℕ)
+  rule-test : (i : ℕ)
       → coherentRule s i ≡ (soundRule (s .plan) i && (brokenAt s i || holds (lines s) (ruleAt (s .plan) i)))
   unfolding coherentRule soundRule
   rule-test i = elim (either (named (eventCount (s .plan)) (ruleAt (s .plan) i))) [
@@ -277,7 +284,8 @@ module _ (s : State) where
     | inr d ↦ rw (d, and-false few)
     | inl d ↦ events-fail (elim (either events) [
       | inr e ↦ e
-      | inl e ↦ absurd (clash (all-of (eventCount (s .plan)) (λ k. listedAs (lines s) k (fateOf s k)) (λ k lt. event-listed s k (all-at (eventCount (s .plan)) (coherentEvent s) e k lt))) (and-not declared _ f d))
+      | inl e ↦ absurd (clash (all-of (eventCount (s .plan)) (λ k. listedAs (lines s) k (fateOf s k))
+          (λ k lt. event-listed s k (all-at (eventCount (s .plan)) (coherentEvent s) e k lt))) (and-not declared _ f d))
     ])
   ]
 

@@ -67,9 +67,10 @@ impl State {
                 return false;
             }
             let step = event.step;
-            if !(!(is_settled(fate) & !listed[i as usize])
-                & may_be_held(event, fate)
-                & !(is_open(fate) & closed[step as usize])) {
+            if (is_settled(fate) & !listed[i as usize])
+                | !may_be_held(event, fate)
+                | (is_open(fate) & closed[step as usize])
+            {
                 return false;
             }
             i += 1;

@@ -69,7 +69,8 @@ returns-2 c =
 cast-listed : tie.Need-cast-listed Inv-loop μ-loop
 cast-listed c =
     let s = c .before .before .before .before .before .before .before .before .before in
-    omega (arith, in-place (s .args .count) (getD (s .args .t1) (c .before .before .before .before .before .before .before .loop .i) blankEntry .event) (c .before .before .before .before .if1 .left))
+    let event = getD (s .args .t1) (c .before .before .before .before .before .before .before .loop .i) blankEntry .event in
+    omega (arith, in-place (s .args .count) event (c .before .before .before .before .if1 .left))
 
 array-write-listed : tie.Need-array-write-listed Inv-loop μ-loop
 array-write-listed c = in-place _ _ (c .before .before .before .before .if1 .left) .0
@@ -83,7 +84,8 @@ add-places c = search needs
 cast-places : tie.Need-cast-places Inv-loop μ-loop
 cast-places c =
     let s = c .before .before .before .before .before .before .before .before .before .before .before in
-    omega (arith, in-place (s .args .count) (getD (s .args .t1) (c .before .before .before .before .before .before .before .before .before .loop .i) blankEntry .event) (c .before .before .before .before .before .before .if1 .left))
+    let event = getD (s .args .t1) (c .before .before .before .before .before .before .before .before .before .loop .i) blankEntry .event in
+    omega (arith, in-place (s .args .count) event (c .before .before .before .before .before .before .if1 .left))
 
 array-write-places : tie.Need-array-write-places Inv-loop μ-loop
 array-write-places c = in-place _ _ (c .before .before .before .before .before .before .if1 .left) .0

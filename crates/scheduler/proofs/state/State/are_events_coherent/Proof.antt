@@ -64,22 +64,22 @@ is-open-requires c κs = search needs
 
 cast-if2-2 : tie.Need-cast-if2-2 Inv-loop μ-loop
 cast-if2-2 c =
-    omega (
-      arith,
-      sound-step (getD (c .before .before .before .before .before .before .before .before .before .before .before .before .before .args .self .plan .events) (c .before .before .before .before .before .before .before .before .loop .i) blankEvent)
-          (not-false _ (rw (c .before .before .before .before .is-sound .ensures) at (c .before .before .before .if1 .left))),
-    )
+    let s = c .before .before .before .before .before .before .before .before .before .before .before .before .before in
+    let event = getD (s .args .self .plan .events) (c .before .before .before .before .before .before .before .before .loop .i) blankEvent in
+    omega (arith, sound-step event (not-false _ (rw (c .before .before .before .before .is-sound .ensures) at (c .before .before .before .if1 .left))))
 
 array-read-if2-2 : tie.Need-array-read-if2-2 Inv-loop μ-loop
 array-read-if2-2 c =
-    sound-step (getD (c .before .before .before .before .before .before .before .before .before .before .before .before .before .args .self .plan .events) (c .before .before .before .before .before .before .before .before .loop .i) blankEvent)
+    let s = c .before .before .before .before .before .before .before .before .before .before .before .before .before in
+    sound-step (getD (s .args .self .plan .events) (c .before .before .before .before .before .before .before .before .loop .i) blankEvent)
     (not-false _ (rw (c .before .before .before .before .is-sound .ensures) at (c .before .before .before .if1 .left)))
 
 returns-2 : tie.Need-returns-2 Inv-loop μ-loop
 returns-2 c =
     let s = c .before .before .before .before .before .before .before .before .before .before .before .before .before .before in
-    sym (event-wrong (s .args .self) (s .args .t2) (s .pre .0) (s .pre .1) (c .before .before .before .before .before .before .before .before .before .loop .i) (c .before .before .before .before .before .before .before .before .loop-test .taken)
-    (not-true _ (rw (c .before .before .before .is-settled .ensures, c .before .before .may-be-held .ensures, c .before .is-open .ensures) at (c .if2 .taken))))
+    let at = c .before .before .before .before .before .before .before .before in
+    sym (event-wrong (s .args .self) (s .args .t2) (s .pre .0) (s .pre .1) (at .before .loop .i) (at .loop-test .taken)
+    (rw (c .before .before .before .is-settled .ensures, c .before .before .may-be-held .ensures, c .before .is-open .ensures) at (c .if2 .taken)))
 
 add-i : tie.Need-add-i Inv-loop μ-loop
 add-i c = search needs
@@ -95,7 +95,7 @@ loop-again c =
       below-more _ _ (i .inv .1)
           (passes-both (s .args .self .plan .events) (s .args .self .standings) (s .args .self .closed) (s .args .t2) (i .i)
           (not-false _ (rw (c .before .before .before .before .before .is-sound .ensures) at (c .before .before .before .before .if1 .left)))
-          (not-false _ (rw (c .before .before .before .is-settled .ensures, c .before .before .may-be-held .ensures, c .before .is-open .ensures) at (c .if2 .left)))),
+          (rw (c .before .before .before .is-settled .ensures, c .before .before .may-be-held .ensures, c .before .is-open .ensures) at (c .if2 .left))),
     )
 
 returns-3 : tie.Need-returns-3 Inv-loop μ-loop

@@ -22,7 +22,8 @@ are-events-coherent-requires c κs =
 
 returns-3 : tie.Need-returns-3
 returns-3 c =
-    sym (events-fail (c .before .before .before .before .before .before .before .before .before .before .before .args .self) (not-true _ (rw (c .before .are-events-coherent .ensures) at (c .if3 .taken))))
+    let s = c .before .before .before .before .before .before .before .before .before .before .before .args .self in
+    sym (events-fail s (not-true _ (rw (c .before .are-events-coherent .ensures) at (c .if3 .taken))))
 
 are-rules-coherent-requires : tie.Need-are-rules-coherent-requires
 are-rules-coherent-requires c κs =
@@ -34,8 +35,9 @@ are-rules-coherent-requires c κs =
 returns-4 : tie.Need-returns-4
 returns-4 c =
     let told = c .before .before .before .before .before .before .before .list-events .ensures .passes (not-false _ (c .before .before .before .before .before .if2 .left)) in
+    let s = c .before .before .before .before .before .before .before .before .before .before .before .before .args .self in
     c .are-rules-coherent .ensures
-    ∙ sym (rules-decide (c .before .before .before .before .before .before .before .before .before .before .before .before .args .self) (c .before .before .before .before .before .before .before .before .if1 .left) (told .declared)
+    ∙ sym (rules-decide s (c .before .before .before .before .before .before .before .before .if1 .left) (told .declared)
     (not-false _ (rw (c .before .before .are-events-coherent .ensures) at (c .before .if3 .left))))
 
 pub is-coherent-spec : {M : Type 1} → statement M
