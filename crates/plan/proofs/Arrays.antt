@@ -1,12 +1,14 @@
 -- Elements of an array: past its end, and after a store.
 use Prim.Native.Nat.{ℕ, _≤_, _<_}
+use native.Mathlib.Omega.{arith}
+use native.Mathlib.Decide.{decLt}
 use borrow.Author.Tests.{lt-ltb, le-ltb}
 use mathlib.Core.Bool.{Bool, true, false, cond}
 use mathlib.Core.List.{List}
 use mathlib.Core.Logic.{_≢_}
-use mathlib.Core.Path.{_≡_, refl, ap}
+use mathlib.Core.Path.{_≡_, refl, _∙_, ap}
 use lib.Dec.{ltb}
-use lib.ListN.{length, getD, set, length-set}
+use lib.ListN.{length, getD, set, replicate, length-set, length-replicate, getD-replicate, List·getD-eq-default}
 use lib.Seq.{getD-set-same, getD-set-other}
 use Rattle.plan.specs.Base.{readAt, storeAt}
 
@@ -17,6 +19,21 @@ read-in n l i d lt = ap (λ t. cond t (getD l i d) d) (lt-ltb i n lt)
 -- past the end stands the default
 pub read-past : {A : Type 0} (n : ℕ) (l : List A) (i : ℕ) (d : A) → n ≤ i → readAt n l i d ≡ d
 read-past n l i d ge = ap (λ t. cond t (getD l i d) d) (le-ltb i n ge)
+
+-- an array of blanks reads blank, at its end and past it
+module _ {A : Type 0} (n : ℕ) (a : A) (i : ℕ) where
+  pub get-blank : getD (replicate n a) i a ≡ a
+  get-blank = elim (decLt i n) [
+    | yes lt ↦ getD-replicate n i a a lt
+    | no ge ↦ List·getD-eq-default (replicate n a) a {n = i} (omega (arith, length-replicate n a))
+  ]
+
+  pub read-blank : readAt n (replicate n a) i a ≡ a
+  read-blank = go (ltb i n)
+    where
+      go : (t : Bool) → cond t (getD (replicate n a) i a) a ≡ a
+      go true = get-blank
+      go false = refl
 
 -- after a store
 module _ {A : Type 0} (n : ℕ) (l : List A) (i : ℕ) (a : A) where
@@ -40,3 +57,11 @@ module _ {A : Type 0} (n : ℕ) (l : List A) (i : ℕ) (a : A) where
 
     pub read-other : (j : ℕ) → j ≢ i → readAt n (storeAt n l i a) j d ≡ readAt n l j d
     read-other j ne = ap (λ x. cond (ltb j n) x d) (get-other j ne)
+
+-- after a store that the code makes within the array
+module _ {A : Type 0} (n : ℕ) (l : List A) (i : ℕ) (a d : A) where
+  pub set-same : i < length l → i < n → readAt n (set l i a) i d ≡ a
+  set-same h lt = read-in n (set l i a) i d lt ∙ getD-set-same l i a d h
+
+  pub set-other : (j : ℕ) → j ≢ i → readAt n (set l i a) j d ≡ readAt n l j d
+  set-other j ne = ap (λ x. cond (ltb j n) x d) (getD-set-other l i j a d ne)

@@ -1,8 +1,12 @@
 -- A fate as its test says it.
+use Prim.Native.Nat.{ℕ}
+use borrow.Author.Tests.{eqb-true}
 use mathlib.Core.Bool.{true}
-use mathlib.Core.Path.{_≡_, refl}
+use mathlib.Core.List.{[], _∷_}
+use mathlib.Core.Path.{_≡_, refl, sym, _∙_, ap}
+use lib.ListN.{getD}
 use Rattle.plan.specs.Prelude.{Fate, Open, Held, Done, Refused, Lapsed}
-use Rattle.plan.specs.Fates.{isOpen, isHeld}
+use Rattle.plan.specs.Fates.{isOpen, isHeld, fateNumber, sameFate}
 use Rattle.plan.proofs.Tests.{clash}
 
 pub held-is : (x : Fate) → isHeld x ≡ true → x ≡ Held
@@ -18,3 +22,17 @@ open-is Held h = absurd (clash h refl)
 open-is Done h = absurd (clash h refl)
 open-is Refused h = absurd (clash h refl)
 open-is Lapsed h = absurd (clash h refl)
+
+-- fates that test the same are the same
+abbrev fateAt : ℕ → Fate
+fateAt n = getD (Open ∷ Held ∷ Done ∷ Refused ∷ Lapsed ∷ []) n Open
+
+fate-number : (x : Fate) → fateAt (fateNumber x) ≡ x
+fate-number Open = refl
+fate-number Held = refl
+fate-number Done = refl
+fate-number Refused = refl
+fate-number Lapsed = refl
+
+pub fate-same : (x y : Fate) → sameFate x y ≡ true → x ≡ y
+fate-same x y h = sym (fate-number x) ∙ ap fateAt (eqb-true (fateNumber x) (fateNumber y) h) ∙ fate-number y

@@ -1,19 +1,20 @@
--- What a history says, line by line. A loop over the lines goes by what is left of them.
+-- What a history says, line by line.
 use Prim.Native.Nat.{ℕ, _+_, _≤_, _<_, min}
 use native.Mathlib.Omega.{arith}
 use native.Mathlib.Numerals.{add-one}
 use native.Mathlib.Decide.{decLt}
-use borrow.Author.Tests.{lt-ltb, le-ltb, not-true, not-false}
-use mathlib.Core.Bool.{Bool, true, false, not, _&&_, _||_, and-true, and-false, or-false, or-assoc}
+use borrow.Author.Tests.{le-ltb, eq-eqb, not-true}
+use mathlib.Core.Bool.{Bool, true, false, not, _&&_, _||_, and-false, and-assoc, or-false, or-assoc}
 use mathlib.Core.List.{List, [], _∷_, _++_, append-assoc, append-nil}
-use mathlib.Core.Path.{_≡_, refl, sym, _∙_, ap}
-use lib.Dec.{eqb}
-use lib.ListN.{length, take, drop, getD, drop-of-length-le}
-use lib.Seq.{length-take-le, take-all, drop-cons, getD-take}
-use Rattle.plan.specs.Prelude.{Fate, Entry}
-use Rattle.plan.specs.Fates.{isDone, sameFate}
-use Rattle.plan.specs.Histories.{blankEntry, fateIf, fatesIn, anyDone, doneIn, doneInTurn, declaredOnly, sameFates}
+use mathlib.Core.Path.{_≡_, refl, sym, _∙_, ap, ap₂}
+use lib.Dec.{eqb, ltb}
+use lib.ListN.{length, take, drop, getD, take-append-drop}
+use lib.Seq.{length-take-le, take-all, take-suc, drop-cons, getD-take}
+use Rattle.plan.specs.Prelude.{Fate, Open, Held, Done, Refused, Lapsed, Entry}
+use Rattle.plan.specs.Fates.{isDone, isSettled, sameFate}
+use Rattle.plan.specs.Histories.{blankEntry, fateIf, fatesIn, anyDone, doneIn, doneInTurn, declaredOnly, sameFates, listedAs}
 use Rattle.plan.proofs.Tests.{clash, and-left, and-right}
+use Rattle.plan.proofs.Fates.{fate-same}
 
 -- one more line at the end, and one at the front
 pub fates-append : (h : List Entry) (l : Entry) (e : ℕ)
@@ -42,7 +43,51 @@ pub doneIn-cons : (h : List Entry) (k : Entry) (e : ℕ)
 unfolding doneIn fatesIn
 doneIn-cons h k e = rw (done-append, done-if)
 
--- what is left of the lines from i on; a length above 16 stands for all 16 places
+pub doneIn-none : (e : ℕ) → doneIn [] e ≡ false
+unfolding doneIn fatesIn anyDone
+doneIn-none e = refl
+
+pub turn-append : (h : List Entry) (l : Entry) (a b : ℕ)
+    → doneInTurn (h ++ (l ∷ [])) a b ≡ (doneInTurn h a b || (doneIn h a && (eqb (l .event) b && isDone (l .fate))))
+unfolding doneInTurn
+turn-append [] l a b =
+    rw (doneIn-none a, doneIn-none b)
+    (or-false (eqb (l .event) a && isDone (l .fate) && false) ∙ and-false (eqb (l .event) a && isDone (l .fate)))
+turn-append (k ∷ h) l a b =
+    rw (doneIn-append h l b, turn-append h l a b, doneIn-cons h k a)
+    (joined (eqb (k .event) a && isDone (k .fate)) (doneIn h b) (eqb (l .event) b && isDone (l .fate)) (doneInTurn h a b) (doneIn h a))
+  where
+    joined : (k d l t a : Bool) → ((k && (d || l)) || (t || (a && l))) ≡ (((k && d) || t) || ((k || a) && l))
+    joined true true l t a = refl
+    joined true false true true a = refl
+    joined true false true false a = refl
+    joined true false false true a = refl
+    joined true false false false a = and-false a
+    joined false d l t a = refl
+
+-- fates in a row that test the same are the same, and say what is done
+pub fates-same : (xs ys : List Fate) → sameFates xs ys ≡ true → xs ≡ ys
+unfolding sameFates
+fates-same [] [] h = refl
+fates-same [] (y ∷ ys) h = absurd (clash h refl)
+fates-same (x ∷ xs) [] h = absurd (clash h refl)
+fates-same (x ∷ xs) (y ∷ ys) h =
+    ap₂ (λ a l. a ∷ l) (fate-same x y (and-left (sameFate x y) (sameFates xs ys) h))
+    (fates-same xs ys (and-right (sameFate x y) (sameFates xs ys) h))
+
+pub done-settled-if : (x : Fate) → anyDone (fateIf (isSettled x) x) ≡ isDone x
+unfolding anyDone
+done-settled-if Open = refl
+done-settled-if Held = refl
+done-settled-if Done = refl
+done-settled-if Refused = refl
+done-settled-if Lapsed = refl
+
+pub listed-done : (h : List Entry) (e : ℕ) (x : Fate) → listedAs h e x ≡ true → doneIn h e ≡ isDone x
+unfolding listedAs doneIn
+listed-done h e x is = ap anyDone (fates-same (fatesIn h e) (fateIf (isSettled x) x) is) ∙ done-settled-if x
+
+-- the first i lines of those that a length gives, and one more; a length above 16 stands for all 16 places
 module _ (h : List Entry) (len i : ℕ) (whole : length h ≡ 16) where
   length-lines : length (take len h) ≡ min len 16
   length-lines = elim (decLt len 16) [
@@ -50,78 +95,50 @@ module _ (h : List Entry) (len i : ℕ) (whole : length h ≡ 16) where
     | no ge ↦ ap length (take-all len h (omega arith)) ∙ whole ∙ omega arith
   ]
 
-  pub rest-cons : i < min len 16 → drop i (take len h) ≡ getD h i blankEntry ∷ drop (i + 1) (take len h)
-  rest-cons lt =
-      rw (add-one, drop-cons (take len h) i blankEntry (rw length-lines lt), getD-take len h i blankEntry (omega arith))
+  pub lines-next : i < min len 16 → take (i + 1) (take len h) ≡ take i (take len h) ++ (getD h i blankEntry ∷ [])
+  lines-next lt =
+      rw (add-one, take-suc (take len h) i blankEntry (rw length-lines lt), getD-take len h i blankEntry (omega arith))
 
-  pub rest-none : min len 16 ≤ i → drop i (take len h) ≡ []
-  rest-none le = drop-of-length-le (take len h) {i = i} (rw length-lines le)
+  pub lines-cut : i < min len 16
+      → take len h ≡ take i (take len h) ++ (getD h i blankEntry ∷ drop (i + 1) (take len h))
+  lines-cut lt =
+      sym (take-append-drop i (take len h))
+      ∙ ap (λ ls. take i (take len h) ++ ls) (rw (add-one, drop-cons (take len h) i blankEntry (rw length-lines lt), getD-take len h i blankEntry (omega arith)))
 
--- a line of what is left: e is done there, or e is done in what is left after it
-module _ (ls rest : List Entry) (l : Entry) (first : ls ≡ l ∷ rest) where
-  pub done-here : (e : ℕ) → (eqb (l .event) e && isDone (l .fate)) ≡ true → doneIn ls e ≡ true
-  done-here e t = rw (first, doneIn-cons rest l e, t)
+  pub lines-all : min len 16 ≤ i → take i (take len h) ≡ take len h
+  lines-all ge = take-all i (take len h) (rw length-lines ge)
 
-  pub done-later : (e : ℕ) → (eqb (l .event) e && isDone (l .fate)) ≡ false → doneIn ls e ≡ doneIn rest e
-  done-later e t = rw (first, doneIn-cons rest l e, t)
+-- lines that go on after some
+pub declared-append : (h r : List Entry) (n : ℕ) → declaredOnly (h ++ r) n ≡ (declaredOnly h n && declaredOnly r n)
+unfolding declaredOnly
+declared-append [] r n = refl
+declared-append (k ∷ h) r n = rw (declared-append h r n) (sym (and-assoc (ltb (k .event) n) (declaredOnly h n) (declaredOnly r n)))
 
-  -- a has been done before these lines (seen) or is done in them, and b is done after it
-  pub turn-here : (seen : Bool) (a b : ℕ)
-      → (seen && eqb (l .event) b && isDone (l .fate)) ≡ true
-      → ((seen && doneIn ls b) || doneInTurn ls a b) ≡ true
-  turn-here true a b t = rw (done-here b t)
-  turn-here false a b t = absurd (clash t refl)
+fates-split : (h r : List Entry) (e : ℕ) → fatesIn (h ++ r) e ≡ fatesIn h e ++ fatesIn r e
+unfolding fatesIn
+fates-split [] r e = refl
+fates-split (k ∷ h) r e = rw (fates-split h r e, append-assoc)
 
-  pub turn-later : (seen : Bool) (a b : ℕ)
-      → (seen && eqb (l .event) b && isDone (l .fate)) ≡ false
-      → ((seen && doneIn ls b) || doneInTurn ls a b) ≡ (((seen || (eqb (l .event) a && isDone (l .fate))) && doneIn rest b) || doneInTurn rest a b)
-  unfolding doneInTurn
-  turn-later true a b t =
-      rw (done-later b t, first) (joined (doneIn rest b) (eqb (l .event) a && isDone (l .fate)) (doneInTurn rest a b))
-    where
-      joined : (d s r : Bool) → (d || (s && d || r)) ≡ (d || r)
-      joined true s r = refl
-      joined false s r = rw (and-false s)
-  turn-later false a b t = rw first
-
-  -- the line names a declared event, or does not
-  pub declared-not : (n : ℕ) → n ≤ l .event → declaredOnly ls n ≡ false
+-- a line that shows the history wrong, whatever follows: its event is not declared; or has a line before, is not
+-- settled or has another fate
+module _ (h r : List Entry) (l : Entry) where
+  pub undeclared-line : (n : ℕ) → n ≤ l .event → declaredOnly (h ++ (l ∷ r)) n ≡ false
   unfolding declaredOnly
-  declared-not n le = rw (first, le-ltb (l .event) n le)
+  undeclared-line n le =
+      declared-append h (l ∷ r) n ∙ rw (le-ltb (l .event) n le) (and-false (declaredOnly h n))
 
-  pub declared-later : (n : ℕ) → l .event < n → declaredOnly ls n ≡ declaredOnly rest n
-  unfolding declaredOnly
-  declared-later n lt = rw (first, lt-ltb (l .event) n lt)
-
-  -- the line names e, and e's fate x is not due, or it is another fate
-  pub listed-not : (e : ℕ) (x : Fate) (due : Bool)
-      → (eqb (l .event) e && not (due && sameFate (l .fate) x)) ≡ true
-      → sameFates (fatesIn ls e) (fateIf due x) ≡ false
-  unfolding fatesIn sameFates
-  listed-not e x due t =
-      rw (first, and-left (eqb (l .event) e) (not (due && sameFate (l .fate) x)) t) (go due (not-true _ (and-right (eqb (l .event) e) (not (due && sameFate (l .fate) x)) t)))
+  pub wrong-line : (x : Fate) (t : Bool)
+      → fatesIn h (l .event) ≡ fateIf t x
+      → (t || not (isSettled x && sameFate (l .fate) x)) ≡ true
+      → listedAs (h ++ (l ∷ r)) (l .event) x ≡ false
+  unfolding listedAs fatesIn sameFates
+  wrong-line x t before is =
+      rw (fates-split h (l ∷ r) (l .event), before, eq-eqb (l .event) (l .event) refl) (go t (isSettled x) is)
     where
-      go : (due : Bool)
-          → (due && sameFate (l .fate) x) ≡ false
-          → sameFates (l .fate ∷ fatesIn rest e) (fateIf due x) ≡ false
-      go true n = rw n
-      go false n = refl
-
-  pub listed-later : (e : ℕ) (x : Fate) (due : Bool)
-      → (eqb (l .event) e && not (due && sameFate (l .fate) x)) ≡ false
-      → sameFates (fatesIn ls e) (fateIf due x) ≡ sameFates (fatesIn rest e) (fateIf (due && not (eqb (l .event) e)) x)
-  unfolding fatesIn sameFates
-  listed-later e x due t = rw first (go (eqb (l .event) e) due t)
-    where
-      go : (names due : Bool)
-          → (names && not (due && sameFate (l .fate) x)) ≡ false
-          → sameFates (fateIf names (l .fate) ++ fatesIn rest e) (fateIf due x) ≡ sameFates (fatesIn rest e) (fateIf (due && not names) x)
-      go true true n = rw (not-false (sameFate (l .fate) x) n)
-      go true false n = absurd (clash refl n)
-      go false due n = rw (and-true due)
-
--- no line is left
-pub listed-all : (x : Fate) (due : Bool) → sameFates [] (fateIf due x) ≡ not due
-unfolding sameFates
-listed-all x true = refl
-listed-all x false = refl
+      go : (t s : Bool)
+          → (t || not (s && sameFate (l .fate) x)) ≡ true
+          → sameFates (fateIf t x ++ (l .fate ∷ fatesIn r (l .event))) (fateIf s x) ≡ false
+      go true true q = and-false (sameFate x x)
+      go true false q = refl
+      go false true q = rw (not-true (sameFate (l .fate) x) q)
+      go false false q = refl

@@ -1,28 +1,19 @@
--- Tests of a rule and of an event over the array of a plan's events: what the code reads out of it decides them.
+-- Tests of a rule over the array of a plan's events, by what the code reads out of it; and the events that a rule names.
 use Prim.Native.Nat.{ℕ, _≤_, _<_}
-use mathlib.Core.Bool.{Bool, not, _&&_, _||_}
+use borrow.Author.Tests.{ltb-true, not-true}
+use mathlib.Core.Bool.{Bool, true, false, not, _&&_, _||_}
 use mathlib.Core.List.{List}
 use mathlib.Core.Path.{_≡_, sym, _∙_, ap}
-use lib.Dec.{eqb}
+use lib.Dec.{eqb, ltb}
 use lib.ListN.{getD}
-use Rattle.plan.specs.Prelude.{Fate, Event, Rule, Order, Need, Conditional, Plan}
+use Rattle.plan.specs.Prelude.{Event, Rule, Order, Need, Conditional, Plan}
 use Rattle.plan.specs.Base.{readAt}
-use Rattle.plan.specs.Fates.{Fates, isOpen, isHeld, isSettled}
 use Rattle.plan.specs.Plans.{blankEvent, attributesOf, holdsBit, forcible, rejectable, delayable}
-use Rattle.plan.specs.Rules.{enforceable, makesWait, ready}
+use Rattle.plan.specs.Rules.{named, enforceable}
 use Rattle.plan.proofs.Arrays.{read-in, read-past}
+use Rattle.plan.proofs.Tests.{and-left, and-right}
 
 module _ (p : Plan) where
-  -- bit k of the plan's event e, where the code read the event v in the array and r in its attributes
-  module _ (events : List Event) (same : p .events ≡ events) (k e : ℕ) (v : Event) (r : Bool) where
-    pub bit-read : v ≡ readAt 16 events e blankEvent
-        → r ≡ holdsBit k (v .attributes)
-        → r ≡ holdsBit k (attributesOf p e)
-    bit-read read bit =
-        bit
-        ∙ ap (λ (w : Event). holdsBit k (w .attributes)) read
-        ∙ ap (λ (l : List Event). holdsBit k (readAt 16 l e blankEvent .attributes)) (sym same)
-
   -- bit k of the plan's event e, where the code read the attributes x in the array, or took 0 past its places, and r in x
   module _ (events : List Event) (same : p .events ≡ events) (k e x : ℕ) (r : Bool) (bit : r ≡ holdsBit k x) where
     attributes-read : readAt 16 events e blankEvent .attributes ≡ x → r ≡ holdsBit k (attributesOf p e)
@@ -64,22 +55,28 @@ module _ (p : Plan) where
     unfolding enforceable
     conditional-enforced c x y z is h k l = rw (is, h, k, l)
 
-    -- f gives x to a
-    pub order-waits : (f : Fates) (e : ℕ) (x : Fate) (y z : Bool)
-        → rule ≡ Order a b
-        → y ≡ delayable p b
-        → x ≡ f a
-        → z ≡ isSettled x
-        → (eqb e b && y && not z) ≡ makesWait p f rule e
-    unfolding makesWait
-    order-waits f e x y z is h k l = rw (is, h, l, k)
+-- a rule that names some of n declared events, none twice
+pub two-named : (n a b : ℕ) (t : Bool) → (ltb a n && ltb b n && t) ≡ true → (a < n) × (b < n)
+two-named n a b t h =
+    let q = and-left (ltb a n && ltb b n) t h in
+    (ltb-true a n (and-left (ltb a n) (ltb b n) q), ltb-true b n (and-right (ltb a n) (ltb b n) q))
 
-  -- f gives x to e
-  pub ready-read : (f : Fates) (e : ℕ) (x : Fate) (h o b : Bool)
-      → x ≡ f e
-      → h ≡ isHeld x
-      → o ≡ isOpen x
-      → b ≡ forcible p e
-      → (h || (o && b)) ≡ ready p f e
-  unfolding ready
-  ready-read f e x h o b is q r s = rw (q, r, s, is)
+pub record ThreeNamed (n a b c : ℕ) : Type 0 where
+  pub first : a < n
+  pub second : b < n
+  pub third : c < n
+  pub apart : eqb a b ≡ false
+
+pub triple-named : (n a b c : ℕ) → named n (Conditional a b c) ≡ true → ThreeNamed n a b c
+unfolding named
+triple-named n a b c h =
+    let q1 = and-left (ltb a n && ltb b n && ltb c n && not (eqb a b) && not (eqb a c)) (not (eqb b c)) h in
+    let q2 = and-left (ltb a n && ltb b n && ltb c n && not (eqb a b)) (not (eqb a c)) q1 in
+    let q3 = and-left (ltb a n && ltb b n && ltb c n) (not (eqb a b)) q2 in
+    let t = two-named n a b (ltb c n) q3 in
+    record {
+      first = t .0;
+      second = t .1;
+      third = ltb-true c n (and-right (ltb a n && ltb b n) (ltb c n) q3);
+      apart = not-true (eqb a b) (and-right (ltb a n && ltb b n && ltb c n) (not (eqb a b)) q2);
+    }

@@ -15,6 +15,7 @@ pub use Rattle.plan.specs.declared.rule.Rule.the-variants.{Order, Need, 
 pub use Rattle.plan.specs.declared.rule.RuleLine.{RuleLine}
 pub use Rattle.plan.specs.declared.plan.Plan.{Plan}
 pub use Rattle.plan.specs.declared.history.Entry.{Entry}
+pub use Rattle.plan.specs.declared.history.Listing.{Listing}
 pub use Rattle.plan.specs.declared.record.Record.{Record}
 pub use Rattle.plan.specs.declared.calls.Call.{Call}
 pub use Rattle.plan.specs.declared.calls.Call.the-variants.{Submit, Close, Finish}

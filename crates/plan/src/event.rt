@@ -1,13 +1,10 @@
 // Events: their attributes, and what may be said of one with its fate.
 use super::fate::Fate;
 use super::fate::is_held;
-use super::fate::is_open;
-use super::mark::is_closed_in;
 ghost use mathlib.Core.Path.{_≡_};
-ghost use mathlib.Core.Bool.{false, not, _&&_};
-ghost use Rattle.plan.specs.Base.{readAt};
-ghost use Rattle.plan.specs.Fates.{isOpen, isHeld};
-ghost use Rattle.plan.specs.Plans.{blankEvent, holdsBit};
+ghost use mathlib.Core.Bool.{not, _&&_};
+ghost use Rattle.plan.specs.Fates.{isHeld};
+ghost use Rattle.plan.specs.Plans.{holdsBit};
 ghost use Rattle.plan.specs.Rules.{badStep, badAttributes};
 
 // What a sheet declares of an event. The attributes' bits: 1 forcible, 2 rejectable, 4 delayable.
@@ -41,21 +38,6 @@ pub fn are_bad(attributes: u8) -> bool
     (7 < attributes) | (is_delayable(attributes) & !is_rejectable(attributes))
 }
 
-// The event in a place; past the places, the blank.
-pub fn event_in(events: [Event; 16], i: u8) -> Event
-    ensures { λ r. ⌜ r ≡ readAt 16 events i blankEvent ⌝ }
-{
-    if i < 16 {
-        let event = events[i as usize];
-        event
-    } else {
-        Event {
-            step: 0,
-            attributes: 0,
-        }
-    }
-}
-
 // Would a sheet be admitted with the event?
 pub fn is_sound(event: Event) -> bool
     ensures { λ r. ⌜ r ≡ (not (badStep (event .step)) && not (badAttributes (event .attributes))) ⌝ }
@@ -68,11 +50,4 @@ pub fn may_be_held(event: Event, fate: Fate) -> bool
     ensures { λ r. ⌜ r ≡ not (isHeld fate && not (holdsBit 4 (event .attributes))) ⌝ }
 {
     !(is_held(fate) & !is_delayable(event.attributes))
-}
-
-// An open event's step is not closed.
-pub fn may_be_open(event: Event, fate: Fate, closed: [bool; 8]) -> bool
-    ensures { λ r. ⌜ r ≡ not (isOpen fate && readAt 8 closed (event .step) false) ⌝ }
-{
-    !(is_open(fate) & is_closed_in(closed, event.step))
 }

@@ -1,7 +1,6 @@
-// Fates, and the array that holds one for each event.
+// Fates, and the place that holds one for an event.
 ghost use mathlib.Core.Path.{_≡_};
-ghost use Rattle.plan.specs.Base.{readAt};
-ghost use Rattle.plan.specs.Fates.{isOpen, isHeld, isDone, isGone, isSettled, fateNumber, sameFate, blankStanding};
+ghost use Rattle.plan.specs.Fates.{isOpen, isHeld, isDone, isGone, isSettled, fateNumber, sameFate};
 
 // Where an event is: still to come, waiting, or settled in one of three ways (5.1, 5.2).
 pub enum Fate {
@@ -75,19 +74,6 @@ pub fn is_settled(x: Fate) -> bool
         Fate::Done => true,
         Fate::Refused => true,
         Fate::Lapsed => true,
-    }
-}
-
-// The fate in a place; past the places, the blank's.
-pub fn fate_in(standings: [Standing; 16], event: u8) -> Fate
-    ensures { λ r. ⌜ r ≡ readAt 16 standings event blankStanding .fate ⌝ }
-{
-    if event < 16 {
-        let standing = standings[event as usize];
-        let fate = standing.fate;
-        fate
-    } else {
-        Fate::Open
     }
 }
 

@@ -1,24 +1,27 @@
-// What a history says of events and rules. A length above 16 stands for all 16 places.
+// What a history says of events. A length above 16 stands for all 16 places.
 use super::fate::Fate;
 use super::fate::Standing;
 use super::fate::is_done;
 use super::fate::is_same;
 use super::fate::is_settled;
-use super::rule::Rule;
-use super::rule::does_owe;
 ghost use mathlib.Core.Path.{_≡_};
 ghost use Prim.Native.Nat.{min};
-ghost use mathlib.Core.Bool.{not, _&&_, _||_};
 ghost use lib.ListN.{take};
-ghost use Rattle.plan.specs.Prelude.{Plan};
 ghost use Rattle.plan.specs.Fates.{fatesOf};
-ghost use Rattle.plan.specs.Rules.{owes};
-ghost use Rattle.plan.specs.Histories.{doneIn, doneInTurn, holds, declaredOnly, listedAs};
+ghost use Rattle.plan.specs.Listings.{Listed};
 
 // A line of the history: an event with its fate.
 pub struct Entry {
     pub event: u8,
     pub fate: Fate,
+}
+
+// What one pass over the lines tells: whether each could stand there, which events have a line, and of those that are
+// done the place of it, counted from 1; 0 for the others.
+pub struct Listing {
+    pub ok: bool,
+    pub listed: [bool; 16],
+    pub places: [u8; 16],
 }
 
 // The lines that a length gives.
@@ -28,114 +31,44 @@ pub fn lines_in(len: u8) -> u8
     if len < 16 { len } else { 16 }
 }
 
-// Does the rule hold?
-pub fn does_hold(history: [Entry; 16], len: u8, rule: Rule) -> bool
-    ensures { λ r. ⌜ r ≡ holds (take len history) rule ⌝ }
-{
-    match rule {
-        Rule::Order(a, b) => !is_done_in_turn(history, len, b, a),
-        Rule::Need(a, b) => {
-            if is_done_in(history, len, a) {
-                return is_done_in(history, len, b);
-            }
-            true
-        }
-        Rule::Conditional(a, b, c) => {
-            if is_done_in(history, len, a) {
-                if is_done_in(history, len, b) {
-                    return is_done_in(history, len, c);
-                }
-            }
-            true
-        }
-    }
-}
-
-// A rule that is not recorded as broken owes nothing and holds.
-pub fn is_kept(
-    broken: bool,
-    standings: [Standing; 16],
-    history: [Entry; 16],
-    len: u8,
-    rule: Rule,
-) -> bool
-    ensures { λ r. ⌜ ((p : Plan) → r ≡ (broken || (not (owes p (fatesOf standings) rule) && holds (take len history) rule))) ⌝ }
-{
-    if broken {
-        return true;
-    }
-    !does_owe(standings, rule) & does_hold(history, len, rule)
-}
-
-// Do the lines name declared events only?
-pub fn are_declared(history: [Entry; 16], len: u8, count: u8) -> bool
-    ensures { λ r. ⌜ r ≡ declaredOnly (take len history) count ⌝ }
+// Where the events stand in the lines; not ok at a line of an event that is not declared, has a line before it, is not
+// settled or has another fate.
+pub fn list_events(history: [Entry; 16], len: u8, count: u8, standings: [Standing; 16]) -> Listing
+    ensures { λ r. ⌜ Listed (take len history) count (fatesOf standings) r ⌝ }
 {
     let n = lines_in(len);
+    let mut listed = [false; 16];
+    let mut places = [0u8; 16];
     let mut i: u8 = 0;
     while i < n {
         let line = history[i as usize];
-        if count <= line.event {
-            return false;
+        let event = line.event;
+        let told = line.fate;
+        if (16 <= event) | (count <= event) {
+            return Listing {
+                ok: false,
+                listed,
+                places,
+            };
+        }
+        let standing = standings[event as usize];
+        let fate = standing.fate;
+        if listed[event as usize] | !(is_settled(fate) & is_same(told, fate)) {
+            return Listing {
+                ok: false,
+                listed,
+                places,
+            };
+        }
+        listed[event as usize] = true;
+        if is_done(fate) {
+            places[event as usize] = i + 1;
         }
         i += 1;
     }
-    true
-}
-
-// Do the lines list the event once, with its fate, if it is settled, and else not?
-pub fn is_listed(history: [Entry; 16], len: u8, event: u8, fate: Fate) -> bool
-    ensures { λ r. ⌜ r ≡ listedAs (take len history) event fate ⌝ }
-{
-    let n = lines_in(len);
-    let mut due = is_settled(fate);
-    let mut i: u8 = 0;
-    while i < n {
-        let line = history[i as usize];
-        let found = line.fate;
-        let names = line.event == event;
-        if names & !(due & is_same(found, fate)) {
-            return false;
-        }
-        due = due & !names;
-        i += 1;
+    Listing {
+        ok: true,
+        listed,
+        places,
     }
-    !due
-}
-
-// Is the event done?
-fn is_done_in(history: [Entry; 16], len: u8, event: u8) -> bool
-    ensures { λ r. ⌜ r ≡ doneIn (take len history) event ⌝ }
-{
-    let n = lines_in(len);
-    let mut i: u8 = 0;
-    while i < n {
-        let line = history[i as usize];
-        let fate = line.fate;
-        if (line.event == event) & is_done(fate) {
-            return true;
-        }
-        i += 1;
-    }
-    false
-}
-
-// Is `a` done, and `b` after it?
-fn is_done_in_turn(history: [Entry; 16], len: u8, a: u8, b: u8) -> bool
-    ensures { λ r. ⌜ r ≡ doneInTurn (take len history) a b ⌝ }
-{
-    let n = lines_in(len);
-    let mut seen = false;
-    let mut i: u8 = 0;
-    while i < n {
-        let line = history[i as usize];
-        let fate = line.fate;
-        let done = is_done(fate);
-        if seen & (line.event == b) & done {
-            return true;
-        }
-        seen = seen | ((line.event == a) & done);
-        i += 1;
-    }
-    false
 }

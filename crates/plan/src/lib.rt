@@ -6,7 +6,6 @@ pub mod calls;
 pub mod event;
 pub mod fate;
 pub mod history;
-pub mod mark;
 pub mod plan;
 pub mod record;
 pub mod rule;

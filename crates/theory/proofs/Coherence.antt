@@ -3,27 +3,28 @@
 use Prim.Native.Nat.{ℕ, suc, _≤_, _<_}
 use native.Mathlib.Omega.{arith}
 use native.Mathlib.Decide.{ℕ-discrete}
-use borrow.Author.Tests.{eqb-true, eq-eqb, ne-eqb, ltb-true, leb-true, leb-false, not-true, not-false}
+use borrow.Author.Tests.{eq-eqb, ne-eqb, ltb-true, leb-true, leb-false, not-true, not-false}
 use mathlib.Core.Bool.{Bool, true, false, not, _&&_, _||_}
 use mathlib.Core.List.{List, [], _∷_}
 use mathlib.Core.Logic.{_≢_, _↔_, inl, inr}
 use mathlib.Core.Option.{Option, none, some}
-use mathlib.Core.Path.{_≡_, refl, sym, _∙_, ap, ap₂, subst}
+use mathlib.Core.Path.{_≡_, refl, sym, _∙_, ap, subst}
 use lib.Dec.{eqb, ltb, leb}
-use lib.ListN.{length, getD}
+use lib.ListN.{length}
 use lib.Seq.{length-take-le}
 use Rattle.theory.proofs.Types.{Fate, Open, Held, Done, Refused, Lapsed, Rule, Order, Need, Conditional, Plan, Entry, State, CallFault, Incoherent, TurnedDown, Reply, Call, Submit, Close, Finish}
 use Rattle.plan.specs.Base.{allBelow, oneIf, countBelow}
 use Rattle.plan.specs.Plans.{eventCount, ruleCount, stepOf, ruleAt, delayable}
 use Rattle.scheduler.specs.State.{fateOf, brokenAt, closedAt, lineCount, lines, Sized}
-use Rattle.plan.specs.Fates.{fateNumber, sameFate, isOpen, isHeld, isDone, isGone, isSettled}
+use Rattle.plan.specs.Fates.{isOpen, isHeld, isDone, isGone, isSettled}
 use Rattle.plan.specs.Rules.{soundEvent, soundRule, owes}
-use Rattle.plan.specs.Histories.{fateIf, fatesIn, doneIn, doneInTurn, holds, declaredOnly, sameFates, listedAs}
+use Rattle.plan.specs.Histories.{fateIf, fatesIn, doneIn, doneInTurn, holds, declaredOnly, listedAs}
 use Rattle.plan.specs.Faults.{isTurnedDown}
 use Rattle.scheduler.specs.Coherent.{coherentEvent, coherentRule, coherent}
 use Rattle.scheduler.specs.Answers.{callRows, callFault, accept, call}
 use Rattle.plan.proofs.Tests.{count-zero, clash, either, and-left, and-right, and-not, all-at, count-more}
 use Rattle.plan.proofs.Tables.{none-applies, no-row}
+use Rattle.plan.proofs.Lines.{fates-same}
 use Rattle.scheduler.proofs.Branches.{submit-same, call-fault, call-accept}
 use Rattle.theory.proofs.Conjunctions.{and-three, and-four}
 use Rattle.theory.proofs.SoundPlans.{Sound}
@@ -32,29 +33,6 @@ use Rattle.theory.proofs.RuleInvariant.{Quiet, unpaid, done-listed, nee
 use Rattle.theory.proofs.Invariant.{Invariant, close-keeps, finish-keeps}
 use Rattle.theory.proofs.Submission.{submit-keeps}
 use Rattle.theory.proofs.InvariantCoherent.{invariant-coherent}
-
--- fates that test the same are the same
-abbrev fateAt : ℕ → Fate
-fateAt n = getD (Open ∷ Held ∷ Done ∷ Refused ∷ Lapsed ∷ []) n Open
-
-fate-number : (x : Fate) → fateAt (fateNumber x) ≡ x
-fate-number Open = refl
-fate-number Held = refl
-fate-number Done = refl
-fate-number Refused = refl
-fate-number Lapsed = refl
-
-fate-same : (x y : Fate) → sameFate x y ≡ true → x ≡ y
-fate-same x y h = sym (fate-number x) ∙ ap fateAt (eqb-true (fateNumber x) (fateNumber y) h) ∙ fate-number y
-
-fates-same : (xs ys : List Fate) → sameFates xs ys ≡ true → xs ≡ ys
-unfolding sameFates
-fates-same [] [] h = refl
-fates-same [] (y ∷ ys) h = absurd (clash h refl)
-fates-same (x ∷ xs) [] h = absurd (clash h refl)
-fates-same (x ∷ xs) (y ∷ ys) h =
-    ap₂ (λ a l. a ∷ l) (fate-same x y (and-left (sameFate x y) (sameFates xs ys) h))
-    (fates-same xs ys (and-right (sameFate x y) (sameFates xs ys) h))
 
 -- a history that names each declared event that passes the test once, and no other, has as many lines as events pass
 one-zero : (b : Bool) → oneIf b ≡ 0 → b ≡ false

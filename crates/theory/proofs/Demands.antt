@@ -1,17 +1,17 @@
 -- Demand 3, of the specification's scheduler: an invariant of any list on an admitted sheet, and what follows from it.
 use Prim.Native.Nat.{ℕ, zero, suc, _≤_, _<_}
 use native.Mathlib.Omega.{arith}
-use native.Mathlib.Decide.{ℕ-discrete, decLt}
+use native.Mathlib.Decide.{ℕ-discrete}
 use borrow.Author.Tests.{eq-eqb, ne-eqb, eqb-true, ltb-true, ltb-false, le-leb, lt-leb, not-true, not-false}
-use mathlib.Core.Bool.{Bool, true, false, not, _&&_, _||_, cond, and-false}
+use mathlib.Core.Bool.{Bool, true, false, not, _&&_, _||_, and-false}
 use mathlib.Core.List.{List, [], _∷_, _++_, append-nil}
 use mathlib.Core.Logic.{_≢_, inl, inr}
 use mathlib.Core.Option.{none, some}
 use mathlib.Core.Path.{_≡_, refl, sym, _∙_, ap, subst}
-use lib.Dec.{eqb, ltb}
-use lib.ListN.{length, getD, length-replicate, getD-replicate, replicate, List·getD-eq-default}
+use lib.Dec.{eqb}
+use lib.ListN.{length, length-replicate}
 use Rattle.theory.proofs.Types.{Fate, Open, Held, Done, Refused, Lapsed, Rule, Order, Need, Conditional, Plan, Standing, Entry, State, CallFault, Unknown, AlreadyClosed, NotClosed, Reply, Call, Submit, Close, Finish}
-use Rattle.plan.specs.Base.{anyBelow, allBelow, among, thoseBelow, readAt}
+use Rattle.plan.specs.Base.{anyBelow, allBelow, among, thoseBelow}
 use Rattle.plan.specs.Plans.{eventCount, ruleCount, stepOf, ruleAt, hasEvent}
 use Rattle.scheduler.specs.State.{firstState, fateOf, brokenAt, closedAt, lines, hold, shut, settleAs}
 use Rattle.plan.specs.Fates.{blankStanding, isOpen, isHeld, isDone, isSettled}
@@ -27,6 +27,7 @@ use Rattle.scheduler.specs.Sheet.{readSheet, admitted}
 use Rattle.scheduler.specs.Lists.{after, scheduler}
 use Rattle.scheduler.specs.Demand.{seen, Observed, nothingYet, submits, closes, anyCall, wasSubmitted, wasClosed, wasFinished, waitsAs, stateOf, accepted, startsDone, doneAlone, newlyRecorded, shows, onlyHistory, observe, observeAll, broken, unbreakable, Holds, Extends, Grows, Keeps}
 use Rattle.plan.proofs.Tests.{clash, either, or-either, count-zero, or-both, and-left, and-right, any-none, any-some, any-found, all-at}
+use Rattle.plan.proofs.Arrays.{get-blank, read-blank}
 use Rattle.plan.proofs.Fates.{open-is}
 use Rattle.scheduler.proofs.Laws.{fate-hold-same, fate-hold-other, plan-hold, closed-hold, broken-hold, lines-hold, broken-settle, fate-shut, broken-shut, lines-shut, closed-shut-same, closed-shut-other}
 use Rattle.scheduler.proofs.Branches.{submit-same, call-fault, call-accept}
@@ -48,21 +49,6 @@ pub record ListInvariant (p : Plan) (o : Observed) (s : State) : Type 0 where
   pub rest : Resting s
   pub agrees : Agrees o s
   pub finished : wasFinished o ≡ true → (e : ℕ) → e < eventCount p → isSettled (fateOf s e) ≡ true
-
--- an array of blanks reads blank, at its end and past it
-module _ {A : Type 0} (n : ℕ) (a : A) (i : ℕ) where
-  get-blank : getD (replicate n a) i a ≡ a
-  get-blank = elim (decLt i n) [
-    | yes lt ↦ getD-replicate n i a a lt
-    | no ge ↦ List·getD-eq-default (replicate n a) a {n = i} (omega (arith, length-replicate n a))
-  ]
-
-  read-blank : readAt n (replicate n a) i a ≡ a
-  read-blank = go (ltb i n)
-    where
-      go : (t : Bool) → cond t (getD (replicate n a) i a) a ≡ a
-      go true = get-blank
-      go false = refl
 
 -- the first state
 module _ (p : Plan) (sd : Sound p) where

@@ -3,24 +3,25 @@
 use Prim.Native.Nat.{ℕ, _<_}
 use native.Mathlib.Omega.{arith}
 use native.Mathlib.Decide.{ℕ-discrete}
-use borrow.Author.Tests.{eq-eqb, ne-eqb, eqb-true, ltb-true, not-true, not-false}
+use borrow.Author.Tests.{eq-eqb, ne-eqb, eqb-true, not-true, not-false}
 use mathlib.Core.Bool.{Bool, true, false, not, _&&_, _||_, and-true, and-false, or-false}
 use mathlib.Core.List.{List, [], _∷_, _++_}
 use mathlib.Core.Logic.{inl, inr}
 use mathlib.Core.Path.{_≡_, refl, sym, _∙_, ap}
-use lib.Dec.{eqb, ltb}
+use lib.Dec.{eqb}
 use Rattle.theory.proofs.Types.{Fate, Open, Held, Done, Refused, Lapsed, Rule, Order, Need, Conditional, Plan, Entry, State}
 use Rattle.plan.specs.Base.{anyBelow}
 use Rattle.plan.specs.Plans.{eventCount, ruleCount, ruleAt, delayable}
 use Rattle.scheduler.specs.State.{fateOf, brokenAt, lines, settleAs}
 use Rattle.plan.specs.Fates.{isDone, isGone, isSettled}
 use Rattle.plan.specs.Rules.{named, bars, makesWait, forbids, owes, ready}
-use Rattle.plan.specs.Histories.{fateIf, anyDone, fatesIn, doneIn, doneInTurn}
+use Rattle.plan.specs.Histories.{doneIn, doneInTurn}
 use Rattle.scheduler.specs.Rules.{forbidden, owing}
 use Rattle.scheduler.specs.Orders.{doOne, mayDo}
 use Rattle.scheduler.specs.Demand.{unbreakable}
-use Rattle.plan.proofs.Tests.{clash, either, or-left, or-right, or-both, and-left, and-right, and-both, and-not, any-false}
-use Rattle.plan.proofs.Lines.{doneIn-append, doneIn-cons}
+use Rattle.plan.proofs.Tests.{clash, either, or-left, or-right, or-both, and-right, and-both, and-not, any-false}
+use Rattle.plan.proofs.Lines.{turn-append, done-settled-if}
+use Rattle.plan.proofs.RuleReads.{two-named, ThreeNamed, triple-named}
 use Rattle.scheduler.proofs.Laws.{fate-settle-other, broken-settle}
 use Rattle.scheduler.proofs.Searching.{ready-unsettled}
 use Rattle.theory.proofs.SoundPlans.{Sound, rule-named}
@@ -58,41 +59,21 @@ differ e a b n = go (eqb e a) refl
     go false q = rw q
 
 -- b is not done last after a
-pub turn-append : (h : List Entry) (l : Entry) (a b : ℕ)
+pub turn-kept : (h : List Entry) (l : Entry) (a b : ℕ)
     → doneInTurn h a b ≡ false
     → (doneIn h a ≡ true → (eqb (l .event) b && isDone (l .fate)) ≡ false)
     → doneInTurn (h ++ (l ∷ [])) a b ≡ false
-unfolding doneInTurn doneIn anyDone fatesIn
-turn-append [] l a b p q =
-    or-both (eqb (l .event) a && isDone (l .fate) && doneIn [] b) false
-    (and-false (eqb (l .event) a && isDone (l .fate))) refl
-turn-append (k ∷ h) l a b p q = or-both (is && doneIn (h ++ (l ∷ [])) b) (doneInTurn (h ++ (l ∷ [])) a b) (go is refl)
-    (turn-append h l a b (or-right (is && doneIn h b) (doneInTurn h a b) p) (λ d. q (doneIn-cons h k a ∙ after is d)))
+turn-kept h l a b p q =
+    turn-append h l a b
+    ∙ or-both (doneInTurn h a b) (doneIn h a && (eqb (l .event) b && isDone (l .fate))) p (go (doneIn h a) q)
   where
-    is : Bool
-    is = eqb (k .event) a && isDone (k .fate)
-
-    after : (t : Bool) → doneIn h a ≡ true → (t || doneIn h a) ≡ true
-    after true d = refl
-    after false d = d
-
-    go : (t : Bool) → is ≡ t → (is && doneIn (h ++ (l ∷ [])) b) ≡ false
-    go false e = rw e
-    go true e =
-        rw e
-        (doneIn-append h l b
-        ∙ or-both (doneIn h b) (eqb (l .event) b && isDone (l .fate))
-        (and-not is (doneIn h b) (or-left (is && doneIn h b) (doneInTurn h a b) p) e) (q (doneIn-cons h k a ∙ rw e)))
+    go : (t : Bool)
+        → (t ≡ true → (eqb (l .event) b && isDone (l .fate)) ≡ false)
+        → (t && (eqb (l .event) b && isDone (l .fate))) ≡ false
+    go true after = after refl
+    go false after = refl
 
 -- the history says which declared events are done
-done-settled-if : (x : Fate) → anyDone (fateIf (isSettled x) x) ≡ isDone x
-unfolding anyDone
-done-settled-if Open = refl
-done-settled-if Held = refl
-done-settled-if Done = refl
-done-settled-if Refused = refl
-done-settled-if Lapsed = refl
-
 pub done-listed : {p : Plan} {s : State}
     → HistoryListed p s
     → (e : ℕ)
@@ -102,11 +83,6 @@ unfolding doneIn
 done-listed {p} {s} k e lt = rw (k .listed e lt) (done-settled-if (fateOf s e))
 
 -- a sound rule names declared events
-two-named : (n a b : ℕ) (t : Bool) → (ltb a n && ltb b n && t) ≡ true → (a < n) × (b < n)
-two-named n a b t h =
-    let q = and-left (ltb a n && ltb b n) t h in
-    (ltb-true a n (and-left (ltb a n) (ltb b n) q), ltb-true b n (and-right (ltb a n) (ltb b n) q))
-
 pub order-named : {p : Plan}
     → Sound p
     → (i a b : ℕ)
@@ -125,34 +101,13 @@ pub need-named : {p : Plan}
 unfolding named
 need-named {p} sd i a b l r = two-named (eventCount p) a b (not (eqb a b)) (rw r at (rule-named sd i l))
 
-pub record ThreeNamed (p : Plan) (a b c : ℕ) : Type 0 where
-  pub first : a < eventCount p
-  pub second : b < eventCount p
-  pub third : c < eventCount p
-  pub apart : eqb a b ≡ false
-
-triple-named : {p : Plan} (a b c : ℕ) → named (eventCount p) (Conditional a b c) ≡ true → ThreeNamed p a b c
-unfolding named
-triple-named {p} a b c h =
-    let n = eventCount p in
-    let q1 = and-left (ltb a n && ltb b n && ltb c n && not (eqb a b) && not (eqb a c)) (not (eqb b c)) h in
-    let q2 = and-left (ltb a n && ltb b n && ltb c n && not (eqb a b)) (not (eqb a c)) q1 in
-    let q3 = and-left (ltb a n && ltb b n && ltb c n) (not (eqb a b)) q2 in
-    let t = two-named n a b (ltb c n) q3 in
-    record {
-      first = t .0;
-      second = t .1;
-      third = ltb-true c n (and-right (ltb a n && ltb b n) (ltb c n) q3);
-      apart = not-true (eqb a b) (and-right (ltb a n && ltb b n && ltb c n) (not (eqb a b)) q2);
-    }
-
 pub conditional-named : {p : Plan}
     → Sound p
     → (i a b c : ℕ)
     → i < ruleCount p
     → ruleAt p i ≡ Conditional a b c
-    → ThreeNamed p a b c
-conditional-named {p} sd i a b c l r = triple-named a b c (rw r at (rule-named sd i l))
+    → ThreeNamed (eventCount p) a b c
+conditional-named {p} sd i a b c l r = triple-named (eventCount p) a b c (rw r at (rule-named sd i l))
 
 -- a trigger is done although what it calls for is refused or lapsed
 unfoldable pub unpaid : State → Rule → Bool
@@ -329,7 +284,7 @@ module _ {p : Plan} {s : State} (sd : Sound p) (e : ℕ) (k : HistoryListed p s)
   unfolding bars
   turn-do i a b l n r v =
       rw (lines-then Done e refl k lt un)
-      (turn-append (lines s) (record { event = e; fate = Done }) b a (w .turn i a b l n r)
+      (turn-kept (lines s) (record { event = e; fate = Done }) b a (w .turn i a b l n r)
       (λ d. rw (sym (done-listed k b (order-named sd i a b l r .1)) ∙ d) at (rw r at v)))
 
   -- in the state t, which differs from the one with e done in recorded rules alone
@@ -466,7 +421,7 @@ module _ {p : Plan} {s : State} (x : Fate) (gx : isGone x ≡ true) (e : ℕ) (k
   pub obeyed-drop : RulesObeyed p s → Quiet p s → RulesObeyed p (settleAs x s e)
   obeyed-drop w qt = record {
     turn = λ i a b l n r. rw (lines-then x e fin k lt un)
-        (turn-append (lines s) (record { event = e; fate = x }) b a (w .turn i a b l (unbroken i n) r)
+        (turn-kept (lines s) (record { event = e; fate = x }) b a (w .turn i a b l (unbroken i n) r)
         (λ d. rw (not-gone x gx) (and-false (eqb e a))));
     paid = λ i l n. paid-drop (ruleAt p i) (w .paid i l (unbroken i n)) (qt i l (unbroken i n));
   }

@@ -1,48 +1,76 @@
--- `State::are_rules_coherent` meets its contract. The loop's invariant: every rule passed has passed the test.
+-- `State::are_rules_coherent` meets its contract. The loop's invariant: every rule passed has passed the tests.
 use Prim.Native.Nat.{ℕ, _<_, _≤_, _-_}
 use native.Mathlib.Omega.{arith}
 use borrow.Author.Count.{below-more}
 use borrow.Author.Needs.{needs}
 use borrow.Author.Tests.{not-true, not-false}
-use mathlib.Core.Bool.{true, false}
-use mathlib.Core.Path.{_≡_, refl, sym, _∙_}
-use Rattle.scheduler.specs.Prelude.{Plan}
-use Rattle.plan.specs.Base.{readAt}
-use Rattle.plan.specs.Plans.{blankRule, ruleCount}
-use Rattle.scheduler.specs.Coherent.{coherentRule}
-use Rattle.plan.proofs.Tests.{all-of}
-use Rattle.scheduler.proofs.CoherentTests.{ruleTest, rule-test}
-use Rattle.plan.proofs.Loops.{all-fail}
+use mathlib.Core.Bool.{true, _&&_}
+use mathlib.Core.List.{List}
+use mathlib.Core.Path.{_≡_, refl, sym}
+use Rattle.plan.specs.Plans.{eventCount}
+use Rattle.plan.specs.Rules.{enforceable}
+use Rattle.plan.specs.Listings.{Placed, placeIn}
+use Rattle.plan.proofs.Tests.{and-left}
+use Rattle.scheduler.specs.Prelude.{Plan, Entry}
+use Rattle.scheduler.specs.State.{lines}
+use Rattle.scheduler.proofs.CoherentTests.{ruleIn, admitsAt, keptAt, kept-both, rule-unsound, rule-breaks, rules-pass}
 use Rattle.scheduler.proofs.state.State.are_rules_coherent.Statement.{statement}
 use Rattle.scheduler.proofs.state.State.are_rules_coherent.Tie as tie
 
 abbrev Inv-loop : tie.InvT-loop
-Inv-loop event-count rule-count events rules standings broken history len i₀ i =
-    (i ≤ rule-count) × ((p : Plan) → p .events ≡ events → (k : ℕ) → k < i → ruleTest p event-count standings history len (readAt 16 broken k false) (readAt 16 rules k blankRule .rule) ≡ true)
+Inv-loop places event-count rule-count events rules broken i₀ i =
+    (i ≤ rule-count)
+    × ((p : Plan) (h : List Entry)
+    → p .events ≡ events
+    → Placed h (placeIn places)
+    → (k : ℕ)
+    → k < i
+    → (admitsAt p event-count rules k && keptAt h broken rules k) ≡ true)
 
 abbrev μ-loop : tie.MeasureT-loop
-μ-loop event-count rule-count events rules standings broken history len i₀ i = rule-count - i
+μ-loop places event-count rule-count events rules broken i₀ i = rule-count - i
 
 loop-holds : tie.Need-loop-holds Inv-loop μ-loop
-loop-holds c = (omega arith, λ p same k lt. absurd (omega arith))
+loop-holds c = (omega arith, λ p h same placed k lt. absurd (omega arith))
 
-rule-in-requires : tie.Need-rule-in-requires Inv-loop μ-loop
-rule-in-requires c κs = search needs
+cast-line : tie.Need-cast-line Inv-loop μ-loop
+cast-line c = search needs
 
-mark-in-requires : tie.Need-mark-in-requires Inv-loop μ-loop
-mark-in-requires c κs = search needs
+mul-line : tie.Need-mul-line Inv-loop μ-loop
+mul-line c = search needs
+
+array-copy-out-line : tie.Need-array-copy-out-line Inv-loop μ-loop
+array-copy-out-line c = search needs
 
 is-admitted-requires : tie.Need-is-admitted-requires Inv-loop μ-loop
 is-admitted-requires c κs = search needs
 
-is-kept-requires : tie.Need-is-kept-requires Inv-loop μ-loop
-is-kept-requires c κs = search needs
-
 returns : tie.Need-returns Inv-loop μ-loop
 returns c =
-    let s = c .before .before .before .before .before .before .before .before .before .before .before .before .before .args .self in
-    let i = c .before .before .before .before .before .before .loop .i in
-    sym (all-fail (ruleCount (s .plan)) (coherentRule s) i (c .before .before .before .before .before .loop-test .taken) (sym (rule-test s i) ∙ not-true _ (simp (c .before .is-kept .ensures (s .plan), c .before .before .is-admitted .ensures (s .plan) refl, c .before .before .before .mark-in .ensures, c .before .before .before .before .rule-in .ensures) at (c .if1 .taken))))
+    let s = c .before .before .before .before .before .before .before .before .before in
+    sym (rule-unsound (s .args .self) (s .pre .1) (s .pre .3) (c .before .before .before .before .loop .i) (c .before .before .before .loop-test .taken)
+    (not-true _ (rw (c .before .is-admitted .ensures (s .args .self .plan) refl) at (c .if1 .taken))))
+
+cast-if2 : tie.Need-cast-if2 Inv-loop μ-loop
+cast-if2 c = search needs
+
+array-read-if2 : tie.Need-array-read-if2 Inv-loop μ-loop
+array-read-if2 c = search needs
+
+does-hold-requires : tie.Need-does-hold-requires Inv-loop μ-loop
+does-hold-requires c κs =
+    let s = c .before .before .before .before .before .before .before .before .before in (
+      eventCount (s .args .self .plan),
+      s .pre .0,
+      and-left _ (enforceable (s .args .self .plan) (ruleIn (s .args .self .plan .rules) (c .before .before .before .before .loop .i)))
+          (not-false _ (rw (c .before .is-admitted .ensures (s .args .self .plan) refl) at (c .if1 .left))),
+    )
+
+returns-2 : tie.Need-returns-2 Inv-loop μ-loop
+returns-2 c =
+    let s = c .before .before .before .before .before .before .before .before .before .before .before in
+    sym (rule-breaks (s .args .self) (s .pre .1) (s .pre .3) (c .before .before .before .before .before .before .loop .i) (c .before .before .before .before .before .loop-test .taken)
+    (not-true _ (rw (c .before .does-hold .ensures (lines (s .args .self)) (s .pre .2)) at (c .if2 .taken))))
 
 add-i : tie.Need-add-i Inv-loop μ-loop
 add-i c = search needs
@@ -52,12 +80,21 @@ loop-less c = search needs
 
 loop-again : tie.Need-loop-again Inv-loop μ-loop
 loop-again c =
-    (omega arith, λ p same. below-more _ _ (c .before .before .before .before .before .before .loop .inv .1 p same) (not-false _ (simp (c .before .is-kept .ensures p, c .before .before .is-admitted .ensures p same, c .before .before .before .mark-in .ensures, c .before .before .before .before .rule-in .ensures) at (c .if1 .left))))
+    let s = c .before .before .before .before .before .before .before .before .before .before .before in
+    let i = c .before .before .before .before .before .before .loop in (
+      omega arith,
+      λ p h same placed.
+          below-more _ _ (i .inv .1 p h same placed)
+          (kept-both p (eventCount (s .args .self .plan)) h (s .args .self .broken) (s .args .self .plan .rules) (i .i)
+          (not-false _ (rw (c .before .before .before .is-admitted .ensures p same) at (c .before .before .if1 .left)))
+          (not-false _ (rw (c .before .does-hold .ensures h placed) at (c .if2 .left)))),
+    )
 
-returns-2 : tie.Need-returns-2 Inv-loop μ-loop
-returns-2 c =
-    let s = c .before .before .before .before .before .before .before .before .args .self in
-    sym (all-of (ruleCount (s .plan)) (coherentRule s) (λ k lt. sym (rule-test s k) ∙ c .before .loop .inv .1 (s .plan) refl k (omega arith)))
+returns-3 : tie.Need-returns-3 Inv-loop μ-loop
+returns-3 c =
+    let s = c .before .before .before .before .before .before in
+    sym (rules-pass (s .args .self) (s .pre .1) (s .pre .3)
+    (λ k lt. c .before .loop .inv .1 (s .args .self .plan) (lines (s .args .self)) refl (s .pre .2) k (omega arith)))
 
 pub are-rules-coherent-spec : {M : Type 1} → statement M
 are-rules-coherent-spec =
@@ -66,12 +103,16 @@ are-rules-coherent-spec =
     Inv-loop
     μ-loop
     loop-holds
-    rule-in-requires
-    mark-in-requires
+    cast-line
+    mul-line
+    array-copy-out-line
     is-admitted-requires
-    is-kept-requires
     returns
+    cast-if2
+    array-read-if2
+    does-hold-requires
+    returns-2
     add-i
     loop-less
     loop-again
-    returns-2)
+    returns-3)
