@@ -23,12 +23,12 @@ unfolding fatesIn
 fates-append [] l e = append-nil (fateIf (eqb (l .event) e) (l .fate))
 fates-append (k ∷ h) l e = rw (fates-append h l e, append-assoc)
 
-pub done-append : (xs ys : List Fate) → anyDone (xs ++ ys) ≡ (anyDone xs || anyDone ys)
+done-append : (xs ys : List Fate) → anyDone (xs ++ ys) ≡ (anyDone xs || anyDone ys)
 unfolding anyDone
 done-append [] ys = refl
 done-append (x ∷ xs) ys = rw (done-append xs ys) (sym (or-assoc (isDone x) (anyDone xs) (anyDone ys)))
 
-pub done-if : (t : Bool) (x : Fate) → anyDone (fateIf t x) ≡ (t && isDone x)
+done-if : (t : Bool) (x : Fate) → anyDone (fateIf t x) ≡ (t && isDone x)
 unfolding anyDone
 done-if true x = or-false (isDone x)
 done-if false x = refl
@@ -38,7 +38,7 @@ pub doneIn-append : (h : List Entry) (l : Entry) (e : ℕ)
 unfolding doneIn
 doneIn-append h l e = rw (fates-append h l e, done-append, done-if)
 
-pub doneIn-cons : (h : List Entry) (k : Entry) (e : ℕ)
+doneIn-cons : (h : List Entry) (k : Entry) (e : ℕ)
     → doneIn (k ∷ h) e ≡ ((eqb (k .event) e && isDone (k .fate)) || doneIn h e)
 unfolding doneIn fatesIn
 doneIn-cons h k e = rw (done-append, done-if)

@@ -22,7 +22,7 @@ use Rattle.plan.proofs.Lines.{fates-append, doneIn-append, doneIn-none,
 
 -- the places after one line more: the same, where it is not of an event that is done
 module _ (h : List Entry) (l : Entry) (place : ℕ → ℕ) (p : Placed h place) where
-  pub placed-gone : isDone (l .fate) ≡ false → Placed (h ++ (l ∷ [])) place
+  placed-gone : isDone (l .fate) ≡ false → Placed (h ++ (l ∷ [])) place
   placed-gone gone = record {
     done = λ e. doneIn-append h l e ∙ rw (gone, and-false (eqb (l .event) e), or-false) (p .done e);
     turn = λ a b. turn-append h l a b ∙ rw (gone, and-false (eqb (l .event) b), and-false (doneIn h a), or-false) (p .turn a b);
@@ -31,7 +31,7 @@ module _ (h : List Entry) (l : Entry) (place : ℕ → ℕ) (p : Placed h place)
   -- and where it is, that event comes last
   module _ (i : ℕ) (few : (e : ℕ) → place e ≤ i) (is : isDone (l .fate) ≡ true) (fresh : doneIn h (l .event) ≡ false)
       (next : ℕ → ℕ) (here : next (l .event) ≡ i + 1) (other : (e : ℕ) → e ≢ l .event → next e ≡ place e) where
-    pub next-few : (e : ℕ) → next e ≤ i + 1
+    next-few : (e : ℕ) → next e ≤ i + 1
     next-few e = elim (ℕ-discrete e (l .event)) [
       | yes q ↦ rw (q, here) (omega arith)
       | no ne ↦ rw (other e ne) (omega (arith, few e))
@@ -71,7 +71,7 @@ module _ (h : List Entry) (l : Entry) (place : ℕ → ℕ) (p : Placed h place)
       ]
     ]
 
-    pub placed-done : Placed (h ++ (l ∷ [])) next
+    placed-done : Placed (h ++ (l ∷ [])) next
     placed-done = record {
       done = λ e. doneIn-append h l e ∙ done-next e;
       turn = λ a b. turn-append h l a b ∙ turn-next a b;
@@ -86,7 +86,7 @@ pub record Passed (h : List Entry) (i n : ℕ) (f : Fates) (has : ℕ → Bool) 
   pub few : (e : ℕ) → place e ≤ i
 
 module _ (n : ℕ) (f : Fates) where
-  pub passed-none : (has : ℕ → Bool) (place : ℕ → ℕ)
+  passed-none : (has : ℕ → Bool) (place : ℕ → ℕ)
       → ((e : ℕ) → has e ≡ false)
       → ((e : ℕ) → place e ≡ 0)
       → Passed [] 0 n f has place
@@ -127,7 +127,7 @@ module _ (n : ℕ) (f : Fates) where
         | no ne ↦ p .settled e (sym (other e ne) ∙ is)
       ]
 
-      pub passed-gone : isDone (f (l .event)) ≡ false → Passed (h ++ (l ∷ [])) (i + 1) n f had place
+      passed-gone : isDone (f (l .event)) ≡ false → Passed (h ++ (l ∷ [])) (i + 1) n f had place
       passed-gone gone = record {
         declared = declared-next;
         fates = fates-next;
@@ -136,7 +136,7 @@ module _ (n : ℕ) (f : Fates) where
         few = λ e. omega (arith, p .few e);
       }
 
-      pub passed-done : isDone (f (l .event)) ≡ true
+      passed-done : isDone (f (l .event)) ≡ true
           → (next : ℕ → ℕ)
           → next (l .event) ≡ i + 1
           → ((e : ℕ) → e ≢ l .event → next e ≡ place e)
@@ -150,7 +150,7 @@ module _ (n : ℕ) (f : Fates) where
       }
 
     -- after all lines
-    pub listed-if : (e : ℕ) → listedAs h e (f e) ≡ not (isSettled (f e) && not (has e))
+    listed-if : (e : ℕ) → listedAs h e (f e) ≡ not (isSettled (f e) && not (has e))
     unfolding listedAs sameFates
     listed-if e = rw (p .fates e) (go (has e) (isSettled (f e)) (p .settled e))
       where

@@ -4,8 +4,8 @@ use Rattle.plan.specs.Base.{allBelow, readAt}
 use Rattle.plan.specs.Fates.{Fates, isSettled}
 use Rattle.plan.specs.Histories.{doneIn, doneInTurn, declaredOnly, listedAs}
 
--- an array of places gives 0 to the events that are not done in the history, and to the others numbers in the order in
--- which they are done (6.8)
+-- the place of an event that is not done in the history is 0, and the others have places in the order in which they
+-- are done (6.8)
 pub record Placed (h : List Entry) (place : ℕ → ℕ) : Type 0 where
   pub done : (e : ℕ) → doneIn h e ≡ ltb 0 (place e)
   pub turn : (a b : ℕ) → doneInTurn h a b ≡ (ltb 0 (place a) && ltb (place a) (place b))
@@ -14,8 +14,8 @@ pub record Placed (h : List Entry) (place : ℕ → ℕ) : Type 0 where
 abbrev pub placeIn : List ℕ → ℕ → ℕ
 placeIn places e = readAt 16 places e 0
 
--- every line names one of n declared events; of those with the fates f the history lists each as it should, but for
--- the settled ones that it does not list at all; and what is done has its place
+-- every line names one of n declared events; the history lists the events as their fates f ask for, but for the settled
+-- ones that are not marked as listed; and what is done has its place (10.4)
 pub record Told (h : List Entry) (n : ℕ) (f : Fates) (l : Listing) : Type 0 where
   pub declared : declaredOnly h n ≡ true
   pub events : (e : ℕ) → listedAs h e (f e) ≡ not (isSettled (f e) && not (readAt 16 (l .listed) e false))
