@@ -1,0 +1,5 @@
+-- The image of a state: the theorems, and the lemmas that the functions' proofs cite.
+pub mod Rows
+pub mod Numbers
+pub mod Bytes
+pub mod Images

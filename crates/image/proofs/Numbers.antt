@@ -1,0 +1,82 @@
+-- Fates, marks and rules as numbers, and back.
+use Prim.Native.Nat.{ℕ, zero, suc, _<_}
+use native.Mathlib.Omega.{arith}
+use borrow.Author.Tests.{ltb-true, eqb-true, eq-eqb, ne-eqb}
+use native.Mathlib.Decide.{ℕ-discrete}
+use mathlib.Core.Bool.{Bool, true, false, _&&_, _||_}
+use mathlib.Core.Logic.{inl, inr}
+use mathlib.Core.Path.{_≡_, refl, sym, _∙_, ap}
+use lib.Dec.{eqb, ltb}
+use Rattle.image.specs.Types.{Fate, Open, Held, Done, Refused, Lapsed, Rule, Order, Need, Conditional, Record}
+use Rattle.plan.specs.Base.{oneIf}
+use Rattle.plan.specs.Fates.{fateNumber}
+use Rattle.plan.specs.Records.{ruleOf}
+use Rattle.plan.proofs.Tests.{or-either, either}
+use Rattle.image.specs.Layout.{fateFrom, ruleKind, ruleA, ruleB, ruleC}
+
+pub fate-back : (x : Fate) → fateFrom (fateNumber x) ≡ x
+fate-back Open = refl
+fate-back Held = refl
+fate-back Done = refl
+fate-back Refused = refl
+fate-back Lapsed = refl
+
+pub fate-low : (x : Fate) → ltb (fateNumber x) 5 ≡ true
+fate-low Open = refl
+fate-low Held = refl
+fate-low Done = refl
+fate-low Refused = refl
+fate-low Lapsed = refl
+
+pub number-back : (n : ℕ) → ltb n 5 ≡ true → fateNumber (fateFrom n) ≡ n
+number-back 0 h = refl
+number-back 1 h = refl
+number-back 2 h = refl
+number-back 3 h = refl
+number-back (suc (suc (suc (suc n)))) h = omega (arith, ltb-true (suc (suc (suc (suc n)))) 5 h)
+
+pub mark-back : (b : Bool) → eqb (oneIf b) 1 ≡ b
+mark-back true = refl
+mark-back false = refl
+
+pub mark-low : (b : Bool) → ltb (oneIf b) 2 ≡ true
+mark-low true = refl
+mark-low false = refl
+
+pub one-back : (n : ℕ) → ltb n 2 ≡ true → oneIf (eqb n 1) ≡ n
+one-back 0 h = refl
+one-back 1 h = refl
+one-back (suc (suc n)) h = absurd (omega (arith, ltb-true (suc (suc n)) 2 h))
+
+pub rule-back : (r : Rule) → ruleOf (record { kind = ruleKind r; x = ruleA r; y = ruleB r; z = ruleC r }) ≡ r
+unfolding ruleOf
+rule-back (Order a b) = refl
+rule-back (Need a b) = refl
+rule-back (Conditional a b c) = refl
+
+-- the tests that a rule's bytes pass
+pub rule-passes : (r : Rule) (rest : Bool)
+    → (ltb 1 (ruleKind r) && ltb (ruleKind r) 5 && (eqb (ruleKind r) 4 || eqb (ruleC r) 0) && rest) ≡ rest
+rule-passes (Order a b) rest = refl
+rule-passes (Need a b) rest = refl
+rule-passes (Conditional a b c) rest = refl
+
+-- a rule's bytes are those of the rule that they say
+pub record RuleBytes (v : Record) : Type 0 where
+  pub kind-is : ruleKind (ruleOf v) ≡ v .kind
+  pub a-is : ruleA (ruleOf v) ≡ v .x
+  pub b-is : ruleB (ruleOf v) ≡ v .y
+  pub c-is : ruleC (ruleOf v) ≡ v .z
+
+pub rule-bytes : (k x y z : ℕ)
+    → ltb 1 k ≡ true
+    → ltb k 5 ≡ true
+    → (eqb k 4 || eqb z 0) ≡ true
+    → RuleBytes (record { kind = k; x = x; y = y; z = z })
+unfolding ruleOf
+rule-bytes 0 x y z lo hi h = let e : _≡_ {A = ℕ} 0 1 = cc in absurd (omega arith)
+rule-bytes 1 x y z lo hi h = let e : _≡_ {A = ℕ} 0 1 = cc in absurd (omega arith)
+rule-bytes 2 x y z lo hi h = record { kind-is = refl; a-is = refl; b-is = refl; c-is = sym (eqb-true z 0 h) }
+rule-bytes 3 x y z lo hi h = record { kind-is = refl; a-is = refl; b-is = refl; c-is = sym (eqb-true z 0 h) }
+rule-bytes 4 x y z lo hi h = record { kind-is = refl; a-is = refl; b-is = refl; c-is = refl }
+rule-bytes (suc (suc (suc (suc (suc k))))) x y z lo hi h = absurd (omega (arith, ltb-true (suc (suc (suc (suc (suc k))))) 5 hi))

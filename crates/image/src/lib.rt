@@ -1,0 +1,1 @@
+// A state as the 384 bytes that a host keeps.
