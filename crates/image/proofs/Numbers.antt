@@ -29,10 +29,10 @@ fate-low Refused = refl
 fate-low Lapsed = refl
 
 pub number-back : (n : ℕ) → ltb n 5 ≡ true → fateNumber (fateFrom n) ≡ n
-number-back 0 h = refl
-number-back 1 h = refl
-number-back 2 h = refl
-number-back 3 h = refl
+number-back zero h = refl
+number-back (suc zero) h = refl
+number-back (suc (suc zero)) h = refl
+number-back (suc (suc (suc zero))) h = refl
 number-back (suc (suc (suc (suc n)))) h = omega (arith, ltb-true (suc (suc (suc (suc n)))) 5 h)
 
 pub mark-back : (b : Bool) → eqb (oneIf b) 1 ≡ b
@@ -44,22 +44,25 @@ mark-low true = refl
 mark-low false = refl
 
 pub one-back : (n : ℕ) → ltb n 2 ≡ true → oneIf (eqb n 1) ≡ n
-one-back 0 h = refl
-one-back 1 h = refl
+one-back zero h = refl
+one-back (suc zero) h = refl
 one-back (suc (suc n)) h = absurd (omega (arith, ltb-true (suc (suc n)) 2 h))
 
-pub rule-back : (r : Rule) → ruleOf (record { kind = ruleKind r; x = ruleA r; y = ruleB r; z = ruleC r }) ≡ r
+-- a rule's four bytes
+abbrev pub recordOf : Rule → Record
+recordOf r = record { kind = ruleKind r; x = ruleA r; y = ruleB r; z = ruleC r }
+
+pub rule-back : (r : Rule) → ruleOf (recordOf r) ≡ r
 unfolding ruleOf
 rule-back (Order a b) = refl
 rule-back (Need a b) = refl
 rule-back (Conditional a b c) = refl
 
 -- the tests that a rule's bytes pass
-pub rule-passes : (r : Rule) (rest : Bool)
-    → (ltb 1 (ruleKind r) && ltb (ruleKind r) 5 && (eqb (ruleKind r) 4 || eqb (ruleC r) 0) && rest) ≡ rest
-rule-passes (Order a b) rest = refl
-rule-passes (Need a b) rest = refl
-rule-passes (Conditional a b c) rest = refl
+pub rule-passes : (r : Rule) → (ltb 1 (ruleKind r) && ltb (ruleKind r) 5 && (eqb (ruleKind r) 4 || eqb (ruleC r) 0)) ≡ true
+rule-passes (Order a b) = refl
+rule-passes (Need a b) = refl
+rule-passes (Conditional a b c) = refl
 
 -- a rule's bytes are those of the rule that they say
 pub record RuleBytes (v : Record) : Type 0 where
@@ -74,9 +77,9 @@ pub rule-bytes : (k x y z : ℕ)
     → (eqb k 4 || eqb z 0) ≡ true
     → RuleBytes (record { kind = k; x = x; y = y; z = z })
 unfolding ruleOf
-rule-bytes 0 x y z lo hi h = let e : _≡_ {A = ℕ} 0 1 = cc in absurd (omega arith)
-rule-bytes 1 x y z lo hi h = let e : _≡_ {A = ℕ} 0 1 = cc in absurd (omega arith)
-rule-bytes 2 x y z lo hi h = record { kind-is = refl; a-is = refl; b-is = refl; c-is = sym (eqb-true z 0 h) }
-rule-bytes 3 x y z lo hi h = record { kind-is = refl; a-is = refl; b-is = refl; c-is = sym (eqb-true z 0 h) }
-rule-bytes 4 x y z lo hi h = record { kind-is = refl; a-is = refl; b-is = refl; c-is = refl }
+rule-bytes zero x y z lo hi h = let e : _≡_ {A = ℕ} 0 1 = cc in absurd (omega arith)
+rule-bytes (suc zero) x y z lo hi h = let e : _≡_ {A = ℕ} 0 1 = cc in absurd (omega arith)
+rule-bytes (suc (suc zero)) x y z lo hi h = record { kind-is = refl; a-is = refl; b-is = refl; c-is = sym (eqb-true z 0 h) }
+rule-bytes (suc (suc (suc zero))) x y z lo hi h = record { kind-is = refl; a-is = refl; b-is = refl; c-is = sym (eqb-true z 0 h) }
+rule-bytes (suc (suc (suc (suc zero)))) x y z lo hi h = record { kind-is = refl; a-is = refl; b-is = refl; c-is = refl }
 rule-bytes (suc (suc (suc (suc (suc k))))) x y z lo hi h = absurd (omega (arith, ltb-true (suc (suc (suc (suc (suc k))))) 5 hi))

@@ -54,15 +54,15 @@ put-inside at g l (suc n) i w h = elim (ℕ-discrete i n) [
 ]
 
 -- rows that stay clear of the places from lo up to hi
-abbrev isApart : ℕ → ℕ → Row → Bool
+abbrev pub isApart : ℕ → ℕ → Row → Bool
 isApart lo hi r = leb hi (r .at) || leb (r .at + r .len) lo
 
-abbrev areApart : ℕ → ℕ → List Row → Bool
+abbrev pub areApart : ℕ → ℕ → List Row → Bool
 areApart lo hi [] = true
 areApart lo hi (r ∷ rs) = isApart lo hi r && areApart lo hi rs
 
 -- rows that stay clear of each other and end within n places
-pub abbrev areClear : ℕ → List Row → Bool
+abbrev pub areClear : ℕ → List Row → Bool
 areClear n [] = true
 areClear n (r ∷ rs) = (leb (r .at + r .len) n && areApart (r .at) (r .at + r .len) rs) && areClear n rs
 
@@ -86,7 +86,7 @@ written-apart lo hi (r ∷ rs) b k h w =
       | inr x ↦ inr (omega (arith, leb-true (r .at + r .len) lo x, w .0))
     ])
 
-abbrev rowOf : List Row → ℕ → Row
+abbrev pub rowOf : List Row → ℕ → Row
 rowOf rs j = getD rs j (one 0 0)
 
 -- a byte of row j

@@ -6,7 +6,7 @@ use mathlib.Core.List.{List, [], _∷_, _++_}
 use mathlib.Core.Path.{_≡_}
 use lib.Dec.{eqb, ltb}
 use lib.ListN.{length, getD, replicate}
-use Rattle.image.specs.Types.{Fate, Open, Held, Done, Refused, Lapsed, Standing, Event, Rule, Order, Need, Conditional, RuleLine, Plan, Entry, State}
+use Rattle.image.specs.Types.{Fate, Open, Held, Done, Refused, Lapsed, Standing, Event, Rule, Order, Need, Conditional, RuleLine, Plan, Entry, Record, State}
 use Rattle.plan.specs.Base.{oneIf, allBelow, tabulate, readAt}
 use Rattle.plan.specs.Fates.{fateNumber}
 use Rattle.plan.specs.Plans.{eventCount, ruleCount, stepOf, attributesOf, ruleAt}
@@ -96,15 +96,16 @@ fateFrom n = getD (Open ∷ Held ∷ Done ∷ Refused ∷ []) n Lapsed
 abbrev pub eventIn : List ℕ → ℕ → Event
 eventIn b e = record { step = byteAt b (stepAt + e); attributes = byteAt b (attributesAt + e) }
 
-abbrev pub ruleIn : List ℕ → ℕ → RuleLine
-ruleIn b i = record {
-  rule = ruleOf (record {
-    kind = byteAt b (kindAt + i);
-    x = byteAt b (aAt + i);
-    y = byteAt b (bAt + i);
-    z = byteAt b (cAt + i);
-  });
+abbrev pub recordIn : List ℕ → ℕ → Record
+recordIn b i = record {
+  kind = byteAt b (kindAt + i);
+  x = byteAt b (aAt + i);
+  y = byteAt b (bAt + i);
+  z = byteAt b (cAt + i);
 }
+
+abbrev pub ruleIn : List ℕ → ℕ → RuleLine
+ruleIn b i = record { rule = ruleOf (recordIn b i) }
 
 abbrev pub standingIn : List ℕ → ℕ → Standing
 standingIn b e = record { fate = fateFrom (byteAt b (fateAt + e)) }

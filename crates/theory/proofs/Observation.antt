@@ -45,7 +45,7 @@ module _ {A : Type 0} where
       (λ k lt. h k (omega arith) ∙ sym (getD-tabulate n 0 g k d (omega arith) ∙ ap g (zero-add k)))
 
   -- the same by readings of an array of n elements
-  array-tabulate : (n : ℕ) (l : List A) (g : ℕ → A) (d : A)
+  pub array-tabulate : (n : ℕ) (l : List A) (g : ℕ → A) (d : A)
       → length l ≡ n
       → ((k : ℕ) → k < n → readAt n l k d ≡ g k)
       → l ≡ tabulate n 0 g
