@@ -25,7 +25,7 @@ use Rattle.image.proofs.Numbers.{fate-back, fate-low, number-back, mark
 use Rattle.image.proofs.Bytes.{ShowsPlan, ShowsCalls, Shows, shows-image, image-shows, image-length}
 
 -- the parts of a conjunction of six tests
-and-six : (a b c d e f : Bool)
+pub and-six : (a b c d e f : Bool)
     → (a && b && c && d && e && f) ≡ true
     → (a ≡ true) × (b ≡ true) × (c ≡ true) × (d ≡ true) × (e ≡ true) × (f ≡ true)
 and-six a b c d e f h =

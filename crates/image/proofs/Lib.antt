@@ -3,3 +3,5 @@ pub mod Rows
 pub mod Numbers
 pub mod Bytes
 pub mod Images
+pub mod ImageCalls
+pub mod ByteNumbers

@@ -3,10 +3,13 @@
 use Prim.Native.Nat.{ℕ}
 use mathlib.Core.Bool.{true, false, _&&_, cond}
 use mathlib.Core.List.{List, [], _∷_}
-use Rattle.image.specs.Types.{Call, Verdict, Admitted, Faulty, Outcome}
+use mathlib.Core.Path.{_≡_}
+use Rattle.image.specs.Types.{State, Call, Verdict, Admitted, Faulty, Outcome}
 use Rattle.plan.specs.Faults.{sheetFaultNumber, answerNumber}
 use Rattle.scheduler.specs.Coherent.{coherent}
 use Rattle.scheduler.specs.Answers.{call}
+use Rattle.scheduler.specs.Lists.{scheduler, after}
+use Rattle.scheduler.specs.Demand.{seen, Demand3}
 use Rattle.scheduler.specs.Runner.{report}
 use Rattle.image.specs.Layout.{imageOf, stateIn, isImage}
 
@@ -43,3 +46,15 @@ keptOutcome b n = record { verdict = Admitted; state = stateIn b; refused = n }
 
 unfoldable pub reportOn : List ℕ → ℕ → List ℕ
 reportOn b n = cond (isImage b && coherent (stateIn b)) (report (keptOutcome b n)) []
+
+-- the numbers that a list's calls have by themselves
+unfoldable pub numbersOf : State → List Call → List ℕ
+numbersOf s [] = []
+numbersOf s (c ∷ cs) = answerNumber (call s c .answer) ∷ numbersOf (call s c .state) cs
+
+-- what a host has who opens a sheet with first state s and makes the calls one after another on the bytes it keeps: the
+-- bytes of the state after the list, each call's own number, and demand 3 of the state that it keeps
+pub record Hosted (s : State) (cs : List Call) : Type 0 where
+  pub bytes : imagesAfter (imageOf s) cs ≡ imageOf (after scheduler s cs)
+  pub numbers : numbersOn (imageOf s) cs ≡ numbersOf s cs
+  pub demand : Demand3 (s .plan) (seen scheduler s cs) (stateIn (imagesAfter (imageOf s) cs))
