@@ -1,7 +1,7 @@
 -- Calls on an image: their numbers, the bytes after them, and what is asked of a kept state. Bytes that are no image
 -- are answered with 12 and stay as they are.
 use Prim.Native.Nat.{ℕ}
-use mathlib.Core.Bool.{true, false, _&&_, cond}
+use mathlib.Core.Bool.{Bool, true, false, _&&_, cond}
 use mathlib.Core.List.{List, [], _∷_}
 use mathlib.Core.Path.{_≡_}
 use Rattle.image.specs.Types.{State, Call, Verdict, Admitted, Faulty, Outcome}
@@ -29,9 +29,12 @@ unfoldable pub imagesAfter : List ℕ → List Call → List ℕ
 imagesAfter b [] = b
 imagesAfter b (c ∷ cs) = imagesAfter (imageAfter b c) cs
 
--- 0 where the bytes are an image of a state that passes number 12, else 12
+-- the bytes are an image of a state that passes number 12; 0 where they are, else 12
+unfoldable pub isSound : List ℕ → Bool
+isSound b = isImage b && coherent (stateIn b)
+
 unfoldable pub checkOn : List ℕ → ℕ
-checkOn b = cond (isImage b && coherent (stateIn b)) 0 12
+checkOn b = cond (isSound b) 0 12
 
 -- opening a sheet: its number and the offset of its fault, 0 and 0 where it is admitted
 abbrev pub verdictNumber : Verdict → ℕ
@@ -45,7 +48,7 @@ abbrev pub keptOutcome : List ℕ → ℕ → Outcome
 keptOutcome b n = record { verdict = Admitted; state = stateIn b; refused = n }
 
 unfoldable pub reportOn : List ℕ → ℕ → List ℕ
-reportOn b n = cond (isImage b && coherent (stateIn b)) (report (keptOutcome b n)) []
+reportOn b n = cond (isSound b) (report (keptOutcome b n)) []
 
 -- the numbers that a list's calls have by themselves
 unfoldable pub numbersOf : State → List Call → List ℕ

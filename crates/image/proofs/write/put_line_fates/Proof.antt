@@ -1,0 +1,68 @@
+use Rattle.image.proofs.write.put_line_fates.Statement.{statement}
+use Rattle.image.proofs.write.put_line_fates.Tie as tie
+use Rattle.image.proofs.write.put_line_fates.Reads as reads
+use Rattle.image.proofs.write.put_line_fates.Lts as lts
+use Rattle.plan.proofs.fate.fate_number.Reads as fate-number-reads
+
+abbrev Inv-loop : tie.InvT-loop
+Inv-loop image₀ row i₀ image i = ?
+
+abbrev μ-loop : tie.MeasureT-loop
+μ-loop image₀ row i₀ image i = ?
+
+-- src/write.rt:178:5
+loop-holds : tie.Need-loop-holds Inv-loop μ-loop
+loop-holds c = ?
+
+-- src/write.rt:179:21
+mul-entry : tie.Need-mul-entry Inv-loop μ-loop
+mul-entry c = ?
+
+-- src/write.rt:179:21
+array-copy-out-entry : tie.Need-array-copy-out-entry Inv-loop μ-loop
+array-copy-out-entry c = ?
+
+-- src/write.rt:181:26
+fate-number-requires : tie.Need-fate-number-requires Inv-loop μ-loop
+fate-number-requires c κs = ?
+
+-- src/write.rt:181:15
+add-image : tie.Need-add-image Inv-loop μ-loop
+add-image c = ?
+
+-- src/write.rt:181:9
+element-write-image : tie.Need-element-write-image Inv-loop μ-loop
+element-write-image c = ?
+
+-- src/write.rt:182:9
+add-i : tie.Need-add-i Inv-loop μ-loop
+add-i c = ?
+
+-- src/write.rt:178:5
+loop-less : tie.Need-loop-less Inv-loop μ-loop
+loop-less c = ?
+
+-- src/write.rt:178:5
+loop-again : tie.Need-loop-again Inv-loop μ-loop
+loop-again c = ?
+
+-- src/write.rt:174:1
+returns : tie.Need-returns Inv-loop μ-loop
+returns c = ?
+
+pub put-line-fates-spec : {M : Type 1} → statement M
+put-line-fates-spec =
+    tie.close
+    (tie.spec
+    Inv-loop
+    μ-loop
+    loop-holds
+    mul-entry
+    array-copy-out-entry
+    fate-number-requires
+    add-image
+    element-write-image
+    add-i
+    loop-less
+    loop-again
+    returns)
