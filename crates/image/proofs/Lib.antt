@@ -2,6 +2,8 @@
 pub mod Rows
 pub mod Numbers
 pub mod Bytes
+pub mod RowLoops
 pub mod Images
 pub mod ImageCalls
 pub mod ByteNumbers
+pub mod CodeSteps

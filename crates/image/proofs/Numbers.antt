@@ -1,17 +1,16 @@
 -- Fates, marks and rules as numbers, and back.
-use Prim.Native.Nat.{ℕ, zero, suc, _<_}
+use Prim.Native.Nat.{ℕ, zero, suc, _≤_, _<_}
 use native.Mathlib.Omega.{arith}
 use borrow.Author.Tests.{ltb-true, eqb-true, eq-eqb, ne-eqb}
-use native.Mathlib.Decide.{ℕ-discrete}
 use mathlib.Core.Bool.{Bool, true, false, _&&_, _||_}
-use mathlib.Core.Logic.{inl, inr}
+use mathlib.Core.Logic.{_≢_}
 use mathlib.Core.Path.{_≡_, refl, sym, _∙_, ap}
 use lib.Dec.{eqb, ltb}
-use Rattle.image.specs.Types.{Fate, Open, Held, Done, Refused, Lapsed, Rule, Order, Need, Conditional, Record}
+use Rattle.image.specs.Types.{Fate, Open, Held, Done, Refused, Lapsed, Rule, Order, Need, Conditional, Record, Answer, TurnedDown, Verdict, Faulty, SheetFault, Cut, BadKind, Full, BadStep, BadAttributes, BadNames, Unenforceable, Extra, CallFault, Unknown, AlreadyClosed, NotClosed, Incoherent}
 use Rattle.plan.specs.Base.{oneIf}
 use Rattle.plan.specs.Fates.{fateNumber}
+use Rattle.plan.specs.Faults.{sheetFaultNumber, callFaultNumber}
 use Rattle.plan.specs.Records.{ruleOf}
-use Rattle.plan.proofs.Tests.{or-either, either}
 use Rattle.image.specs.Layout.{fateFrom, ruleKind, ruleA, ruleB, ruleC}
 
 pub fate-back : (x : Fate) → fateFrom (fateNumber x) ≡ x
@@ -83,3 +82,48 @@ rule-bytes (suc (suc zero)) x y z lo hi h = record { kind-is = refl; a-is = refl
 rule-bytes (suc (suc (suc zero))) x y z lo hi h = record { kind-is = refl; a-is = refl; b-is = refl; c-is = sym (eqb-true z 0 h) }
 rule-bytes (suc (suc (suc (suc zero)))) x y z lo hi h = record { kind-is = refl; a-is = refl; b-is = refl; c-is = refl }
 rule-bytes (suc (suc (suc (suc (suc k))))) x y z lo hi h = absurd (omega (arith, ltb-true (suc (suc (suc (suc (suc k))))) 5 hi))
+
+-- a number past the others is the last fate's
+pub fate-past : (n : ℕ) → n ≢ 0 → n ≢ 1 → n ≢ 2 → n ≢ 3 → Lapsed ≡ fateFrom n
+fate-past zero a b c d = absurd (a refl)
+fate-past (suc zero) a b c d = absurd (b refl)
+fate-past (suc (suc zero)) a b c d = absurd (c refl)
+fate-past (suc (suc (suc zero))) a b c d = absurd (d refl)
+fate-past (suc (suc (suc (suc n)))) a b c d = refl
+
+-- the rule of each kind
+module _ (k x y z : ℕ) where
+  pub kind-order : k ≡ 2 → Order x y ≡ ruleOf (record { kind = k; x = x; y = y; z = z })
+  unfolding ruleOf
+  kind-order e = rw (eq-eqb k 2 e, ruleOf)
+
+  pub kind-need : k ≢ 2 → k ≡ 3 → Need x y ≡ ruleOf (record { kind = k; x = x; y = y; z = z })
+  unfolding ruleOf
+  kind-need n e = rw (ne-eqb k 2 n, eq-eqb k 3 e, ruleOf)
+
+  pub kind-other : k ≢ 2 → k ≢ 3 → Conditional x y z ≡ ruleOf (record { kind = k; x = x; y = y; z = z })
+  unfolding ruleOf
+  kind-other n m = rw (ne-eqb k 2 n, ne-eqb k 3 m, ruleOf)
+
+-- the numbers of faults are bytes
+sheet-number-low : (f : SheetFault) → sheetFaultNumber f ≤ 8
+sheet-number-low Cut = omega arith
+sheet-number-low BadKind = omega arith
+sheet-number-low Full = omega arith
+sheet-number-low BadStep = omega arith
+sheet-number-low BadAttributes = omega arith
+sheet-number-low BadNames = omega arith
+sheet-number-low Unenforceable = omega arith
+sheet-number-low Extra = omega arith
+
+call-number-low : (f : CallFault) → callFaultNumber f ≤ 12
+call-number-low Unknown = omega arith
+call-number-low AlreadyClosed = omega arith
+call-number-low NotClosed = omega arith
+call-number-low Incoherent = omega arith
+
+pub sheet-byte : (v : Verdict) (f : SheetFault) (at n : ℕ) → v ≡ Faulty f at → n ≡ sheetFaultNumber f → n < 256
+sheet-byte v f at n h e = omega (arith, e, sheet-number-low f)
+
+pub call-byte : (a : Answer) (f : CallFault) (n : ℕ) → a ≡ TurnedDown f → n ≡ callFaultNumber f → n < 256
+call-byte a f n h e = omega (arith, e, call-number-low f)

@@ -8,6 +8,7 @@ use plan::calls::Call;
 use scheduler::state::State;
 ghost use mathlib.Core.Path.{_≡_};
 ghost use mathlib.Core.Bool.{cond};
+ghost use lib.ListN.{length};
 ghost use Rattle.plan.specs.Faults.{answerNumber, isTurnedDown};
 ghost use Rattle.image.specs.Calls.{numberOn, imageAfter, isSound, checkOn};
 ghost use Rattle.image.specs.Internal.Writes.{withCall};
@@ -20,6 +21,7 @@ pub fn make_call(image: &mut [u8; 384], made: Call) -> u8
     if !is_image(&*image) {
         return 12;
     }
+    measure(*image);
     let state = state_in(&*image);
     let reply = state.call(made);
     let answer = reply.answer;
@@ -62,3 +64,9 @@ fn note(image: &mut [u8; 384], answer: Answer, next: State) -> u8
         Answer::TurnedDown(fault) => call_fault_number(fault) as u8,
     }
 }
+
+// Does nothing. The proof of a call has to be told that the bytes are as many as their type says, and an array given by
+// value tells it.
+fn measure(bytes: [u8; 384])
+    ensures { λ _. ⌜ length bytes ≡ 384 ⌝ }
+{}

@@ -1,45 +1,45 @@
+-- `closed_in` meets its contract.
+use Prim.Native.Nat.{_+_, _-_, _≤_}
+use native.Mathlib.Omega.{arith}
+use borrow.Author.Needs.{needs}
+use mathlib.Core.Path.{_≡_, refl, _∙_, ap}
+use mathlib.Core.Bool.{false}
+use lib.Dec.{eqb}
+use lib.ListN.{replicate}
+use Rattle.image.specs.Layout.{shutAt, byteAt}
+use Rattle.image.proofs.RowLoops.{fillTo, fill-none, fill-next, fill-all}
 use Rattle.image.proofs.read.closed_in.Statement.{statement}
 use Rattle.image.proofs.read.closed_in.Tie as tie
-use Rattle.image.proofs.read.closed_in.Reads as reads
-use Rattle.image.proofs.read.closed_in.Lts as lts
 
 abbrev Inv-loop : tie.InvT-loop
-Inv-loop image row₀ i₀ row i = ?
+Inv-loop image row₀ i₀ row i = (i ≤ 8) × (row ≡ fillTo (λ k. eqb (byteAt image (shutAt + k)) 1) (replicate 8 false) i)
 
 abbrev μ-loop : tie.MeasureT-loop
-μ-loop image row₀ i₀ row i = ?
+μ-loop image row₀ i₀ row i = 8 - i
 
--- src/read.rt:116:5
 loop-holds : tie.Need-loop-holds Inv-loop μ-loop
-loop-holds c = ?
+loop-holds c = (omega arith, fill-none _ _)
 
--- src/read.rt:117:24
 add-row : tie.Need-add-row Inv-loop μ-loop
-add-row c = ?
+add-row c = omega arith
 
--- src/read.rt:117:18
 element-copy-out-row : tie.Need-element-copy-out-row Inv-loop μ-loop
-element-copy-out-row c = ?
+element-copy-out-row c = omega arith
 
--- src/read.rt:117:9
 array-write-row : tie.Need-array-write-row Inv-loop μ-loop
-array-write-row c = ?
+array-write-row c = omega arith
 
--- src/read.rt:118:9
 add-i : tie.Need-add-i Inv-loop μ-loop
-add-i c = ?
+add-i c = omega arith
 
--- src/read.rt:116:5
 loop-less : tie.Need-loop-less Inv-loop μ-loop
-loop-less c = ?
+loop-less c = omega arith
 
--- src/read.rt:116:5
 loop-again : tie.Need-loop-again Inv-loop μ-loop
-loop-again c = ?
+loop-again c = (omega arith, fill-next (λ k. eqb (byteAt (c .before .before .before .args .image .now) (shutAt + k)) 1) _ _ _ _ (c .before .before .loop .inv .1) refl)
 
--- src/read.rt:111:1
 returns : tie.Need-returns Inv-loop μ-loop
-returns c = ?
+returns c = fill-all 8 false _ _ (c .before .loop .i) (c .before .loop .inv .0) (c .loop-test .left) (c .before .loop .inv .1)
 
 pub closed-in-spec : {M : Type 1} → statement M
 closed-in-spec =

@@ -1,57 +1,53 @@
+-- `events_in` meets its contract.
+use Prim.Native.Nat.{_+_, _-_, _≤_}
+use native.Mathlib.Omega.{arith}
+use borrow.Author.Needs.{needs}
+use mathlib.Core.Path.{_≡_, refl, _∙_, ap}
+use lib.ListN.{replicate}
+use Rattle.plan.specs.Plans.{blankEvent}
+use Rattle.image.specs.Layout.{eventIn}
+use Rattle.image.proofs.RowLoops.{fillTo, fill-none, fill-next, fill-all}
 use Rattle.image.proofs.read.events_in.Statement.{statement}
 use Rattle.image.proofs.read.events_in.Tie as tie
-use Rattle.image.proofs.read.events_in.Reads as reads
-use Rattle.image.proofs.read.events_in.Lts as lts
 
 abbrev Inv-loop : tie.InvT-loop
-Inv-loop image row₀ i₀ row i = ?
+Inv-loop image row₀ i₀ row i = (i ≤ 16) × (row ≡ fillTo (eventIn image) (replicate 16 blankEvent) i)
 
 abbrev μ-loop : tie.MeasureT-loop
-μ-loop image row₀ i₀ row i = ?
+μ-loop image row₀ i₀ row i = 16 - i
 
--- src/read.rt:61:5
 loop-holds : tie.Need-loop-holds Inv-loop μ-loop
-loop-holds c = ?
+loop-holds c = (omega arith, fill-none _ _)
 
--- src/read.rt:63:25
 add-t6 : tie.Need-add-t6 Inv-loop μ-loop
-add-t6 c = ?
+add-t6 c = omega arith
 
--- src/read.rt:63:19
 element-copy-out-t9 : tie.Need-element-copy-out-t9 Inv-loop μ-loop
-element-copy-out-t9 c = ?
+element-copy-out-t9 c = omega arith
 
--- src/read.rt:64:31
 add-t10 : tie.Need-add-t10 Inv-loop μ-loop
-add-t10 c = ?
+add-t10 c = omega arith
 
--- src/read.rt:64:25
 element-copy-out-t13 : tie.Need-element-copy-out-t13 Inv-loop μ-loop
-element-copy-out-t13 c = ?
+element-copy-out-t13 c = omega arith
 
--- src/read.rt:62:9
 mul-row : tie.Need-mul-row Inv-loop μ-loop
-mul-row c = ?
+mul-row c = omega arith
 
--- src/read.rt:62:9
 array-set-from-row : tie.Need-array-set-from-row Inv-loop μ-loop
-array-set-from-row c = ?
+array-set-from-row c = omega arith
 
--- src/read.rt:66:9
 add-i : tie.Need-add-i Inv-loop μ-loop
-add-i c = ?
+add-i c = omega arith
 
--- src/read.rt:61:5
 loop-less : tie.Need-loop-less Inv-loop μ-loop
-loop-less c = ?
+loop-less c = omega arith
 
--- src/read.rt:61:5
 loop-again : tie.Need-loop-again Inv-loop μ-loop
-loop-again c = ?
+loop-again c = (omega arith, fill-next (eventIn (c .before .before .before .before .args .image .now)) _ _ _ _ (c .before .before .before .loop .inv .1) refl)
 
--- src/read.rt:53:1
 returns : tie.Need-returns Inv-loop μ-loop
-returns c = ?
+returns c = fill-all 16 blankEvent _ _ (c .before .loop .i) (c .before .loop .inv .0) (c .loop-test .left) (c .before .loop .inv .1)
 
 pub events-in-spec : {M : Type 1} → statement M
 events-in-spec =

@@ -1,62 +1,57 @@
+-- `history_in` meets its contract.
+use Prim.Native.Nat.{_+_, _-_, _≤_}
+use native.Mathlib.Omega.{arith}
+use borrow.Author.Needs.{needs}
+use mathlib.Core.Path.{_≡_, refl, _∙_, ap}
+use lib.ListN.{replicate}
+use Rattle.plan.specs.Histories.{blankEntry}
+use Rattle.image.specs.Types.{Fate}
+use Rattle.image.specs.Layout.{entryIn, lineEventAt, byteAt}
+use Rattle.image.proofs.RowLoops.{fillTo, fill-none, fill-next, fill-all}
 use Rattle.image.proofs.read.history_in.Statement.{statement}
 use Rattle.image.proofs.read.history_in.Tie as tie
-use Rattle.image.proofs.read.history_in.Reads as reads
-use Rattle.image.proofs.read.history_in.Lts as lts
-use Rattle.image.proofs.number.fate_from.Reads as fate-from-reads
 
 abbrev Inv-loop : tie.InvT-loop
-Inv-loop image row₀ i₀ row i = ?
+Inv-loop image row₀ i₀ row i = (i ≤ 16) × (row ≡ fillTo (entryIn image) (replicate 16 blankEntry) i)
 
 abbrev μ-loop : tie.MeasureT-loop
-μ-loop image row₀ i₀ row i = ?
+μ-loop image row₀ i₀ row i = 16 - i
 
--- src/read.rt:131:5
 loop-holds : tie.Need-loop-holds Inv-loop μ-loop
-loop-holds c = ?
+loop-holds c = (omega arith, fill-none _ _)
 
--- src/read.rt:132:36
 add-fate-from : tie.Need-add-fate-from Inv-loop μ-loop
-add-fate-from c = ?
+add-fate-from c = omega arith
 
--- src/read.rt:132:30
 element-copy-out-fate-from : tie.Need-element-copy-out-fate-from Inv-loop μ-loop
-element-copy-out-fate-from c = ?
+element-copy-out-fate-from c = omega arith
 
--- src/read.rt:132:13
 fate-from-requires : tie.Need-fate-from-requires Inv-loop μ-loop
-fate-from-requires c κs = ?
+fate-from-requires c κs = search needs
 
--- src/read.rt:134:26
 add-t8 : tie.Need-add-t8 Inv-loop μ-loop
-add-t8 c = ?
+add-t8 c = omega arith
 
--- src/read.rt:134:20
 element-copy-out-t11 : tie.Need-element-copy-out-t11 Inv-loop μ-loop
-element-copy-out-t11 c = ?
+element-copy-out-t11 c = omega arith
 
--- src/read.rt:133:9
 mul-row : tie.Need-mul-row Inv-loop μ-loop
-mul-row c = ?
+mul-row c = omega arith
 
--- src/read.rt:133:9
 array-set-from-row : tie.Need-array-set-from-row Inv-loop μ-loop
-array-set-from-row c = ?
+array-set-from-row c = omega arith
 
--- src/read.rt:137:9
 add-i : tie.Need-add-i Inv-loop μ-loop
-add-i c = ?
+add-i c = omega arith
 
--- src/read.rt:131:5
 loop-less : tie.Need-loop-less Inv-loop μ-loop
-loop-less c = ?
+loop-less c = omega arith
 
--- src/read.rt:131:5
 loop-again : tie.Need-loop-again Inv-loop μ-loop
-loop-again c = ?
+loop-again c = (omega arith, fill-next (entryIn (c .before .before .before .before .before .args .image .now)) _ _ _ _ (c .before .before .before .before .loop .inv .1) (ap (λ (x : Fate). record { event = byteAt (c .before .before .before .before .before .args .image .now) (lineEventAt + c .before .before .before .before .loop .i); fate = x }) (c .before .fate-from .ensures)))
 
--- src/read.rt:123:1
 returns : tie.Need-returns Inv-loop μ-loop
-returns c = ?
+returns c = fill-all 16 blankEntry _ _ (c .before .loop .i) (c .before .loop .inv .0) (c .loop-test .left) (c .before .loop .inv .1)
 
 pub history-in-spec : {M : Type 1} → statement M
 history-in-spec =

@@ -1,78 +1,69 @@
+-- `rules_in` meets its contract.
+use Prim.Native.Nat.{_+_, _-_, _≤_}
+use native.Mathlib.Omega.{arith}
+use borrow.Author.Needs.{needs}
+use mathlib.Core.Path.{_≡_, refl, _∙_, ap}
+use lib.ListN.{replicate}
+use Rattle.plan.specs.Plans.{blankRule}
+use Rattle.image.specs.Types.{Rule}
+use Rattle.image.specs.Layout.{ruleIn}
+use Rattle.image.proofs.RowLoops.{fillTo, fill-none, fill-next, fill-all}
 use Rattle.image.proofs.read.rules_in.Statement.{statement}
 use Rattle.image.proofs.read.rules_in.Tie as tie
-use Rattle.image.proofs.read.rules_in.Reads as reads
-use Rattle.image.proofs.read.rules_in.Lts as lts
-use Rattle.image.proofs.number.rule_from.Reads as rule-from-reads
 
 abbrev Inv-loop : tie.InvT-loop
-Inv-loop image row₀ i₀ row i = ?
+Inv-loop image row₀ i₀ row i = (i ≤ 16) × (row ≡ fillTo (ruleIn image) (replicate 16 blankRule) i)
 
 abbrev μ-loop : tie.MeasureT-loop
-μ-loop image row₀ i₀ row i = ?
+μ-loop image row₀ i₀ row i = 16 - i
 
--- src/read.rt:78:5
 loop-holds : tie.Need-loop-holds Inv-loop μ-loop
-loop-holds c = ?
+loop-holds c = (omega arith, fill-none _ _)
 
--- src/read.rt:79:36
 add-rule-from : tie.Need-add-rule-from Inv-loop μ-loop
-add-rule-from c = ?
+add-rule-from c = omega arith
 
--- src/read.rt:79:30
 element-copy-out-rule-from : tie.Need-element-copy-out-rule-from Inv-loop μ-loop
-element-copy-out-rule-from c = ?
+element-copy-out-rule-from c = omega arith
 
--- src/read.rt:79:51
 add-rule-from-2 : tie.Need-add-rule-from-2 Inv-loop μ-loop
-add-rule-from-2 c = ?
+add-rule-from-2 c = omega arith
 
--- src/read.rt:79:45
 element-copy-out-rule-from-2 : tie.Need-element-copy-out-rule-from-2 Inv-loop μ-loop
-element-copy-out-rule-from-2 c = ?
+element-copy-out-rule-from-2 c = omega arith
 
--- src/read.rt:79:66
 add-rule-from-3 : tie.Need-add-rule-from-3 Inv-loop μ-loop
-add-rule-from-3 c = ?
+add-rule-from-3 c = omega arith
 
--- src/read.rt:79:60
 element-copy-out-rule-from-3 : tie.Need-element-copy-out-rule-from-3 Inv-loop μ-loop
-element-copy-out-rule-from-3 c = ?
+element-copy-out-rule-from-3 c = omega arith
 
--- src/read.rt:79:81
 add-rule-from-4 : tie.Need-add-rule-from-4 Inv-loop μ-loop
-add-rule-from-4 c = ?
+add-rule-from-4 c = omega arith
 
--- src/read.rt:79:75
 element-copy-out-rule-from-4 : tie.Need-element-copy-out-rule-from-4 Inv-loop μ-loop
-element-copy-out-rule-from-4 c = ?
+element-copy-out-rule-from-4 c = omega arith
 
--- src/read.rt:79:13
 rule-from-requires : tie.Need-rule-from-requires Inv-loop μ-loop
-rule-from-requires c κs = ?
+rule-from-requires c κs = search needs
 
--- src/read.rt:80:9
 mul-row : tie.Need-mul-row Inv-loop μ-loop
-mul-row c = ?
+mul-row c = omega arith
 
--- src/read.rt:80:9
 array-set-from-row : tie.Need-array-set-from-row Inv-loop μ-loop
-array-set-from-row c = ?
+array-set-from-row c = omega arith
 
--- src/read.rt:81:9
 add-i : tie.Need-add-i Inv-loop μ-loop
-add-i c = ?
+add-i c = omega arith
 
--- src/read.rt:78:5
 loop-less : tie.Need-loop-less Inv-loop μ-loop
-loop-less c = ?
+loop-less c = omega arith
 
--- src/read.rt:78:5
 loop-again : tie.Need-loop-again Inv-loop μ-loop
-loop-again c = ?
+loop-again c = (omega arith, fill-next (ruleIn (c .before .before .before .before .before .before .before .args .image .now)) _ _ _ _ (c .before .before .before .before .before .before .loop .inv .1) (ap (λ (x : Rule). record { rule = x }) (c .rule-from .ensures)))
 
--- src/read.rt:71:1
 returns : tie.Need-returns Inv-loop μ-loop
-returns c = ?
+returns c = fill-all 16 blankRule _ _ (c .before .loop .i) (c .before .loop .inv .0) (c .loop-test .left) (c .before .loop .inv .1)
 
 pub rules-in-spec : {M : Type 1} → statement M
 rules-in-spec =

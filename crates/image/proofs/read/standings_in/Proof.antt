@@ -1,50 +1,48 @@
+-- `standings_in` meets its contract.
+use Prim.Native.Nat.{_+_, _-_, _≤_}
+use native.Mathlib.Omega.{arith}
+use borrow.Author.Needs.{needs}
+use mathlib.Core.Path.{_≡_, refl, _∙_, ap}
+use lib.ListN.{replicate}
+use Rattle.plan.specs.Fates.{blankStanding}
+use Rattle.image.specs.Types.{Fate}
+use Rattle.image.specs.Layout.{standingIn}
+use Rattle.image.proofs.RowLoops.{fillTo, fill-none, fill-next, fill-all}
 use Rattle.image.proofs.read.standings_in.Statement.{statement}
 use Rattle.image.proofs.read.standings_in.Tie as tie
-use Rattle.image.proofs.read.standings_in.Reads as reads
-use Rattle.image.proofs.read.standings_in.Lts as lts
-use Rattle.image.proofs.number.fate_from.Reads as fate-from-reads
 
 abbrev Inv-loop : tie.InvT-loop
-Inv-loop image row₀ i₀ row i = ?
+Inv-loop image row₀ i₀ row i = (i ≤ 16) × (row ≡ fillTo (standingIn image) (replicate 16 blankStanding) i)
 
 abbrev μ-loop : tie.MeasureT-loop
-μ-loop image row₀ i₀ row i = ?
+μ-loop image row₀ i₀ row i = 16 - i
 
--- src/read.rt:91:5
 loop-holds : tie.Need-loop-holds Inv-loop μ-loop
-loop-holds c = ?
+loop-holds c = (omega arith, fill-none _ _)
 
--- src/read.rt:92:36
 add-fate-from : tie.Need-add-fate-from Inv-loop μ-loop
-add-fate-from c = ?
+add-fate-from c = omega arith
 
--- src/read.rt:92:30
 element-copy-out-fate-from : tie.Need-element-copy-out-fate-from Inv-loop μ-loop
-element-copy-out-fate-from c = ?
+element-copy-out-fate-from c = omega arith
 
--- src/read.rt:92:13
 fate-from-requires : tie.Need-fate-from-requires Inv-loop μ-loop
-fate-from-requires c κs = ?
+fate-from-requires c κs = search needs
 
--- src/read.rt:93:9
 array-set-from-row : tie.Need-array-set-from-row Inv-loop μ-loop
-array-set-from-row c = ?
+array-set-from-row c = omega arith
 
--- src/read.rt:94:9
 add-i : tie.Need-add-i Inv-loop μ-loop
-add-i c = ?
+add-i c = omega arith
 
--- src/read.rt:91:5
 loop-less : tie.Need-loop-less Inv-loop μ-loop
-loop-less c = ?
+loop-less c = omega arith
 
--- src/read.rt:91:5
 loop-again : tie.Need-loop-again Inv-loop μ-loop
-loop-again c = ?
+loop-again c = (omega arith, fill-next (standingIn (c .before .before .before .before .args .image .now)) _ _ _ _ (c .before .before .before .loop .inv .1) (ap (λ (x : Fate). record { fate = x }) (c .fate-from .ensures)))
 
--- src/read.rt:86:1
 returns : tie.Need-returns Inv-loop μ-loop
-returns c = ?
+returns c = fill-all 16 blankStanding _ _ (c .before .loop .i) (c .before .loop .inv .0) (c .loop-test .left) (c .before .loop .inv .1)
 
 pub standings-in-spec : {M : Type 1} → statement M
 standings-in-spec =

@@ -1,45 +1,46 @@
+-- `are_closings` meets its contract.
+use Prim.Native.Nat.{_+_, _-_, _≤_}
+use native.Mathlib.Omega.{arith}
+use borrow.Author.Needs.{needs}
+use borrow.Author.Tests.{lt-ltb, le-ltb}
+use mathlib.Core.Bool.{true}
+use mathlib.Core.Path.{_≡_, sym, _∙_}
+use lib.Dec.{ltb}
+use Rattle.plan.specs.Base.{allBelow}
+use Rattle.image.specs.Layout.{shutAt, byteAt}
+use Rattle.image.proofs.RowLoops.{all-none, all-passed, all-failed, all-all}
 use Rattle.image.proofs.test.are_closings.Statement.{statement}
 use Rattle.image.proofs.test.are_closings.Tie as tie
-use Rattle.image.proofs.test.are_closings.Reads as reads
-use Rattle.image.proofs.test.are_closings.Lts as lts
 
 abbrev Inv-loop : tie.InvT-loop
-Inv-loop image i₀ i = ?
+Inv-loop image i₀ i = (i ≤ 8) × (true ≡ allBelow i (λ k. ltb (byteAt image (shutAt + k)) 2))
 
 abbrev μ-loop : tie.MeasureT-loop
-μ-loop image i₀ i = ?
+μ-loop image i₀ i = 8 - i
 
--- src/test.rt:47:5
 loop-holds : tie.Need-loop-holds Inv-loop μ-loop
-loop-holds c = ?
+loop-holds c = (omega arith, all-none _)
 
--- src/test.rt:48:23
 add-if1 : tie.Need-add-if1 Inv-loop μ-loop
-add-if1 c = ?
+add-if1 c = omega arith
 
--- src/test.rt:48:17
 element-copy-out-if1 : tie.Need-element-copy-out-if1 Inv-loop μ-loop
-element-copy-out-if1 c = ?
+element-copy-out-if1 c = omega arith
 
--- src/test.rt:49:13
 returns : tie.Need-returns Inv-loop μ-loop
-returns c = ?
+returns c = all-failed (λ k. ltb (byteAt (c .before .before .before .before .args .image .now) (shutAt + k)) 2) 8 _ (c .before .before .loop-test .taken) (le-ltb _ 2 (c .if1 .taken))
 
--- src/test.rt:51:9
 add-i : tie.Need-add-i Inv-loop μ-loop
-add-i c = ?
+add-i c = omega arith
 
--- src/test.rt:47:5
 loop-less : tie.Need-loop-less Inv-loop μ-loop
-loop-less c = ?
+loop-less c = omega arith
 
--- src/test.rt:47:5
 loop-again : tie.Need-loop-again Inv-loop μ-loop
-loop-again c = ?
+loop-again c = (omega arith, all-passed (λ k. ltb (byteAt (c .before .before .before .before .args .image .now) (shutAt + k)) 2) _ (c .before .before .before .loop .inv .1) (lt-ltb _ 2 (c .if1 .left)))
 
--- src/test.rt:43:1
 returns-2 : tie.Need-returns-2 Inv-loop μ-loop
-returns-2 c = ?
+returns-2 c = all-all _ 8 (c .before .loop .i) _ (c .before .loop .inv .0) (c .loop-test .left) (c .before .loop .inv .1)
 
 pub are-closings-spec : {M : Type 1} → statement M
 are-closings-spec =

@@ -1,42 +1,42 @@
+-- `are_places` meets its contract.
+use Prim.Native.Nat.{_+_, _-_, _≤_}
+use native.Mathlib.Omega.{arith}
+use borrow.Author.Needs.{needs}
+use borrow.Author.Tests.{not-true, not-false}
+use mathlib.Core.Bool.{true}
+use mathlib.Core.Path.{_≡_, sym, _∙_}
+use Rattle.plan.specs.Base.{allBelow}
+use Rattle.image.specs.Layout.{placeOk}
+use Rattle.image.proofs.RowLoops.{all-none, all-passed, all-failed, all-all}
 use Rattle.image.proofs.test.are_places.Statement.{statement}
 use Rattle.image.proofs.test.are_places.Tie as tie
-use Rattle.image.proofs.test.are_places.Reads as reads
-use Rattle.image.proofs.test.are_places.Lts as lts
-use Rattle.image.proofs.test.is_place.Reads as is-place-reads
 
 abbrev Inv-loop : tie.InvT-loop
-Inv-loop image i₀ i = ?
+Inv-loop image i₀ i = (i ≤ 16) × (true ≡ allBelow i (placeOk image))
 
 abbrev μ-loop : tie.MeasureT-loop
-μ-loop image i₀ i = ?
+μ-loop image i₀ i = 16 - i
 
--- src/test.rt:20:5
 loop-holds : tie.Need-loop-holds Inv-loop μ-loop
-loop-holds c = ?
+loop-holds c = (omega arith, all-none _)
 
--- src/test.rt:21:13
 is-place-requires : tie.Need-is-place-requires Inv-loop μ-loop
-is-place-requires c κs = ?
+is-place-requires c κs = search needs
 
--- src/test.rt:22:13
 returns : tie.Need-returns Inv-loop μ-loop
-returns c = ?
+returns c = all-failed (placeOk (c .before .before .before .before .args .image .now)) 16 _ (c .before .before .loop-test .taken) (sym (c .before .is-place .ensures) ∙ not-true _ (c .if1 .taken))
 
--- src/test.rt:24:9
 add-i : tie.Need-add-i Inv-loop μ-loop
-add-i c = ?
+add-i c = omega arith
 
--- src/test.rt:20:5
 loop-less : tie.Need-loop-less Inv-loop μ-loop
-loop-less c = ?
+loop-less c = omega arith
 
--- src/test.rt:20:5
 loop-again : tie.Need-loop-again Inv-loop μ-loop
-loop-again c = ?
+loop-again c = (omega arith, all-passed (placeOk (c .before .before .before .before .args .image .now)) _ (c .before .before .before .loop .inv .1) (sym (c .before .is-place .ensures) ∙ not-false _ (c .if1 .left)))
 
--- src/test.rt:16:1
 returns-2 : tie.Need-returns-2 Inv-loop μ-loop
-returns-2 c = ?
+returns-2 c = all-all _ 16 (c .before .loop .i) _ (c .before .loop .inv .0) (c .loop-test .left) (c .before .loop .inv .1)
 
 pub are-places-spec : {M : Type 1} → statement M
 are-places-spec =

@@ -1,52 +1,43 @@
+-- `is_place` meets its contract.
+use mathlib.Core.Path.{refl}
+use Rattle.image.specs.Layout.{placeOk}
 use borrow.Author.Needs.{needs}
 use Rattle.image.proofs.test.is_place.Statement.{statement}
 use Rattle.image.proofs.test.is_place.Tie as tie
-use Rattle.image.proofs.test.is_place.Reads as reads
-use Rattle.image.proofs.test.is_place.Lts as lts
 
--- src/test.rt:33:22
 add-kind : tie.Need-add-kind
 add-kind c = search needs
 
--- src/test.rt:33:16
 element-copy-out-kind : tie.Need-element-copy-out-kind
 element-copy-out-kind c = search needs
 
--- src/test.rt:36:33
 add-result : tie.Need-add-result
 add-result c = search needs
 
--- src/test.rt:36:27
 element-copy-out-result : tie.Need-element-copy-out-result
 element-copy-out-result c = search needs
 
--- src/test.rt:37:18
 add-result-2 : tie.Need-add-result-2
 add-result-2 c = search needs
 
--- src/test.rt:37:12
 element-copy-out-result-2 : tie.Need-element-copy-out-result-2
 element-copy-out-result-2 c = search needs
 
--- src/test.rt:38:18
 add-result-3 : tie.Need-add-result-3
 add-result-3 c = search needs
 
--- src/test.rt:38:12
 element-copy-out-result-3 : tie.Need-element-copy-out-result-3
 element-copy-out-result-3 c = search needs
 
--- src/test.rt:39:18
 add-result-4 : tie.Need-add-result-4
 add-result-4 c = search needs
 
--- src/test.rt:39:12
 element-copy-out-result-4 : tie.Need-element-copy-out-result-4
 element-copy-out-result-4 c = search needs
 
--- src/test.rt:29:1
 returns : tie.Need-returns
-returns c = ?
+unfolding placeOk
+returns c = refl
 
 pub is-place-spec : {M : Type 1} → statement M
 is-place-spec =

@@ -1,41 +1,41 @@
+-- `is_rest_spare` meets its contract.
+use Prim.Native.Nat.{_+_, _-_, _≤_}
+use native.Mathlib.Omega.{arith}
+use borrow.Author.Needs.{needs}
+use mathlib.Core.Path.{_≡_, refl}
+use lib.Dec.{eqb}
+use Rattle.plan.specs.Base.{allBelow}
+use Rattle.image.specs.Layout.{spareAt, byteAt}
+use Rattle.image.proofs.RowLoops.{all-none, all-next, all-all}
 use Rattle.image.proofs.test.is_rest_spare.Statement.{statement}
 use Rattle.image.proofs.test.is_rest_spare.Tie as tie
-use Rattle.image.proofs.test.is_rest_spare.Reads as reads
-use Rattle.image.proofs.test.is_rest_spare.Lts as lts
 
 abbrev Inv-loop : tie.InvT-loop
-Inv-loop image ok₀ i₀ ok i = ?
+Inv-loop image ok₀ i₀ ok i = (i ≤ 212) × (ok ≡ allBelow i (λ k. eqb (byteAt image (spareAt + k)) 0))
 
 abbrev μ-loop : tie.MeasureT-loop
-μ-loop image ok₀ i₀ ok i = ?
+μ-loop image ok₀ i₀ ok i = 212 - i
 
--- src/test.rt:62:5
 loop-holds : tie.Need-loop-holds Inv-loop μ-loop
-loop-holds c = ?
+loop-holds c = (omega arith, all-none _)
 
--- src/test.rt:63:21
 add-ok : tie.Need-add-ok Inv-loop μ-loop
-add-ok c = ?
+add-ok c = omega arith
 
--- src/test.rt:63:15
 element-copy-out-ok : tie.Need-element-copy-out-ok Inv-loop μ-loop
-element-copy-out-ok c = ?
+element-copy-out-ok c = omega arith
 
--- src/test.rt:64:9
 add-i : tie.Need-add-i Inv-loop μ-loop
-add-i c = ?
+add-i c = omega arith
 
--- src/test.rt:62:5
 loop-less : tie.Need-loop-less Inv-loop μ-loop
-loop-less c = ?
+loop-less c = omega arith
 
--- src/test.rt:62:5
 loop-again : tie.Need-loop-again Inv-loop μ-loop
-loop-again c = ?
+loop-again c = (omega arith, all-next (λ k. eqb (byteAt (c .before .before .before .args .image .now) (spareAt + k)) 0) _ _ _ (c .before .before .loop .inv .1) refl)
 
--- src/test.rt:57:1
 returns : tie.Need-returns Inv-loop μ-loop
-returns c = ?
+returns c = all-all _ 212 (c .before .loop .i) _ (c .before .loop .inv .0) (c .loop-test .left) (c .before .loop .inv .1)
 
 pub is-rest-spare-spec : {M : Type 1} → statement M
 is-rest-spare-spec =

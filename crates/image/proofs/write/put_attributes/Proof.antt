@@ -1,49 +1,46 @@
+-- `put_attributes` meets its contract.
+use Prim.Native.Nat.{_+_, _-_, _≤_}
+use native.Mathlib.Omega.{arith}
+use borrow.Author.Needs.{needs}
+use mathlib.Core.Path.{_≡_, refl, _∙_, ap}
+use Rattle.image.specs.Internal.Writes.{putTo, attributesByte}
+use Rattle.image.specs.Layout.{attributesAt}
+use Rattle.image.proofs.RowLoops.{put-none, put-next, put-all}
 use Rattle.image.proofs.write.put_attributes.Statement.{statement}
 use Rattle.image.proofs.write.put_attributes.Tie as tie
-use Rattle.image.proofs.write.put_attributes.Reads as reads
-use Rattle.image.proofs.write.put_attributes.Lts as lts
 
 abbrev Inv-loop : tie.InvT-loop
-Inv-loop image₀ row i₀ image i = ?
+Inv-loop image₀ row i₀ image i = (i ≤ 16) × (image ≡ putTo attributesAt (attributesByte row) image₀ i)
 
 abbrev μ-loop : tie.MeasureT-loop
-μ-loop image₀ row i₀ image i = ?
+μ-loop image₀ row i₀ image i = 16 - i
 
--- src/write.rt:76:5
 loop-holds : tie.Need-loop-holds Inv-loop μ-loop
-loop-holds c = ?
+loop-holds c = (omega arith, put-none _ _ _)
 
--- src/write.rt:77:21
 mul-event : tie.Need-mul-event Inv-loop μ-loop
-mul-event c = ?
+mul-event c = omega arith
 
--- src/write.rt:77:21
 array-copy-out-event : tie.Need-array-copy-out-event Inv-loop μ-loop
-array-copy-out-event c = ?
+array-copy-out-event c = omega arith
 
--- src/write.rt:78:15
 add-image : tie.Need-add-image Inv-loop μ-loop
-add-image c = ?
+add-image c = omega arith
 
--- src/write.rt:78:9
 element-write-image : tie.Need-element-write-image Inv-loop μ-loop
-element-write-image c = ?
+element-write-image c = omega arith
 
--- src/write.rt:79:9
 add-i : tie.Need-add-i Inv-loop μ-loop
-add-i c = ?
+add-i c = omega arith
 
--- src/write.rt:76:5
 loop-less : tie.Need-loop-less Inv-loop μ-loop
-loop-less c = ?
+loop-less c = omega arith
 
--- src/write.rt:76:5
 loop-again : tie.Need-loop-again Inv-loop μ-loop
-loop-again c = ?
+loop-again c = (omega arith, put-next attributesAt (attributesByte (c .before .before .before .args .t2)) _ _ _ _ (c .before .before .loop .inv .1) refl)
 
--- src/write.rt:72:1
 returns : tie.Need-returns Inv-loop μ-loop
-returns c = ?
+returns c = put-all _ _ _ 16 _ (c .before .loop .i) (c .before .loop .inv .0) (c .loop-test .left) (c .before .loop .inv .1)
 
 pub put-attributes-spec : {M : Type 1} → statement M
 put-attributes-spec =

@@ -1,50 +1,46 @@
+-- `put_fates` meets its contract.
+use Prim.Native.Nat.{_+_, _-_, _≤_}
+use native.Mathlib.Omega.{arith}
+use borrow.Author.Needs.{needs}
+use mathlib.Core.Path.{_≡_, refl, _∙_, ap}
+use Rattle.image.specs.Internal.Writes.{putTo, fateByte}
+use Rattle.image.specs.Layout.{fateAt}
+use Rattle.image.proofs.RowLoops.{put-none, put-next, put-all}
 use Rattle.image.proofs.write.put_fates.Statement.{statement}
 use Rattle.image.proofs.write.put_fates.Tie as tie
-use Rattle.image.proofs.write.put_fates.Reads as reads
-use Rattle.image.proofs.write.put_fates.Lts as lts
-use Rattle.plan.proofs.fate.fate_number.Reads as fate-number-reads
 
 abbrev Inv-loop : tie.InvT-loop
-Inv-loop image₀ row i₀ image i = ?
+Inv-loop image₀ row i₀ image i = (i ≤ 16) × (image ≡ putTo fateAt (fateByte row) image₀ i)
 
 abbrev μ-loop : tie.MeasureT-loop
-μ-loop image₀ row i₀ image i = ?
+μ-loop image₀ row i₀ image i = 16 - i
 
--- src/write.rt:135:5
 loop-holds : tie.Need-loop-holds Inv-loop μ-loop
-loop-holds c = ?
+loop-holds c = (omega arith, put-none _ _ _)
 
--- src/write.rt:136:24
 array-copy-out-standing : tie.Need-array-copy-out-standing Inv-loop μ-loop
-array-copy-out-standing c = ?
+array-copy-out-standing c = omega arith
 
--- src/write.rt:138:26
 fate-number-requires : tie.Need-fate-number-requires Inv-loop μ-loop
-fate-number-requires c κs = ?
+fate-number-requires c κs = search needs
 
--- src/write.rt:138:15
 add-image : tie.Need-add-image Inv-loop μ-loop
-add-image c = ?
+add-image c = omega arith
 
--- src/write.rt:138:9
 element-write-image : tie.Need-element-write-image Inv-loop μ-loop
-element-write-image c = ?
+element-write-image c = omega arith
 
--- src/write.rt:139:9
 add-i : tie.Need-add-i Inv-loop μ-loop
-add-i c = ?
+add-i c = omega arith
 
--- src/write.rt:135:5
 loop-less : tie.Need-loop-less Inv-loop μ-loop
-loop-less c = ?
+loop-less c = omega arith
 
--- src/write.rt:135:5
 loop-again : tie.Need-loop-again Inv-loop μ-loop
-loop-again c = ?
+loop-again c = (omega arith, put-next fateAt (fateByte (c .before .before .before .before .args .t2)) _ _ _ _ (c .before .before .before .loop .inv .1) (c .fate-number .ensures))
 
--- src/write.rt:131:1
 returns : tie.Need-returns Inv-loop μ-loop
-returns c = ?
+returns c = put-all _ _ _ 16 _ (c .before .loop .i) (c .before .loop .inv .0) (c .loop-test .left) (c .before .loop .inv .1)
 
 pub put-fates-spec : {M : Type 1} → statement M
 put-fates-spec =

@@ -1,54 +1,49 @@
+-- `put_firsts` meets its contract.
+use Prim.Native.Nat.{_+_, _-_, _≤_}
+use native.Mathlib.Omega.{arith}
+use borrow.Author.Needs.{needs}
+use mathlib.Core.Path.{_≡_, refl, _∙_, ap}
+use Rattle.image.specs.Internal.Writes.{putTo, aByte}
+use Rattle.image.specs.Layout.{aAt}
+use Rattle.image.proofs.RowLoops.{put-none, put-next, put-all}
 use Rattle.image.proofs.write.put_firsts.Statement.{statement}
 use Rattle.image.proofs.write.put_firsts.Tie as tie
-use Rattle.image.proofs.write.put_firsts.Reads as reads
-use Rattle.image.proofs.write.put_firsts.Lts as lts
-use Rattle.image.proofs.number.first_of.Reads as first-of-reads
 
 abbrev Inv-loop : tie.InvT-loop
-Inv-loop image₀ row i₀ image i = ?
+Inv-loop image₀ row i₀ image i = (i ≤ 16) × (image ≡ putTo aAt (aByte row) image₀ i)
 
 abbrev μ-loop : tie.MeasureT-loop
-μ-loop image₀ row i₀ image i = ?
+μ-loop image₀ row i₀ image i = 16 - i
 
--- src/write.rt:99:5
 loop-holds : tie.Need-loop-holds Inv-loop μ-loop
-loop-holds c = ?
+loop-holds c = (omega arith, put-none _ _ _)
 
--- src/write.rt:100:20
 mul-line : tie.Need-mul-line Inv-loop μ-loop
-mul-line c = ?
+mul-line c = omega arith
 
--- src/write.rt:100:20
 array-copy-out-line : tie.Need-array-copy-out-line Inv-loop μ-loop
-array-copy-out-line c = ?
+array-copy-out-line c = omega arith
 
--- src/write.rt:102:25
 first-of-requires : tie.Need-first-of-requires Inv-loop μ-loop
-first-of-requires c κs = ?
+first-of-requires c κs = search needs
 
--- src/write.rt:102:15
 add-image : tie.Need-add-image Inv-loop μ-loop
-add-image c = ?
+add-image c = omega arith
 
--- src/write.rt:102:9
 element-write-image : tie.Need-element-write-image Inv-loop μ-loop
-element-write-image c = ?
+element-write-image c = omega arith
 
--- src/write.rt:103:9
 add-i : tie.Need-add-i Inv-loop μ-loop
-add-i c = ?
+add-i c = omega arith
 
--- src/write.rt:99:5
 loop-less : tie.Need-loop-less Inv-loop μ-loop
-loop-less c = ?
+loop-less c = omega arith
 
--- src/write.rt:99:5
 loop-again : tie.Need-loop-again Inv-loop μ-loop
-loop-again c = ?
+loop-again c = (omega arith, put-next aAt (aByte (c .before .before .before .before .args .t2)) _ _ _ _ (c .before .before .before .loop .inv .1) (c .first-of .ensures))
 
--- src/write.rt:95:1
 returns : tie.Need-returns Inv-loop μ-loop
-returns c = ?
+returns c = put-all _ _ _ 16 _ (c .before .loop .i) (c .before .loop .inv .0) (c .loop-test .left) (c .before .loop .inv .1)
 
 pub put-firsts-spec : {M : Type 1} → statement M
 put-firsts-spec =

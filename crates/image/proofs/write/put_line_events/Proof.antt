@@ -1,49 +1,46 @@
+-- `put_line_events` meets its contract.
+use Prim.Native.Nat.{_+_, _-_, _≤_}
+use native.Mathlib.Omega.{arith}
+use borrow.Author.Needs.{needs}
+use mathlib.Core.Path.{_≡_, refl, _∙_, ap}
+use Rattle.image.specs.Internal.Writes.{putTo, lineEventByte}
+use Rattle.image.specs.Layout.{lineEventAt}
+use Rattle.image.proofs.RowLoops.{put-none, put-next, put-all}
 use Rattle.image.proofs.write.put_line_events.Statement.{statement}
 use Rattle.image.proofs.write.put_line_events.Tie as tie
-use Rattle.image.proofs.write.put_line_events.Reads as reads
-use Rattle.image.proofs.write.put_line_events.Lts as lts
 
 abbrev Inv-loop : tie.InvT-loop
-Inv-loop image₀ row i₀ image i = ?
+Inv-loop image₀ row i₀ image i = (i ≤ 16) × (image ≡ putTo lineEventAt (lineEventByte row) image₀ i)
 
 abbrev μ-loop : tie.MeasureT-loop
-μ-loop image₀ row i₀ image i = ?
+μ-loop image₀ row i₀ image i = 16 - i
 
--- src/write.rt:167:5
 loop-holds : tie.Need-loop-holds Inv-loop μ-loop
-loop-holds c = ?
+loop-holds c = (omega arith, put-none _ _ _)
 
--- src/write.rt:168:21
 mul-entry : tie.Need-mul-entry Inv-loop μ-loop
-mul-entry c = ?
+mul-entry c = omega arith
 
--- src/write.rt:168:21
 array-copy-out-entry : tie.Need-array-copy-out-entry Inv-loop μ-loop
-array-copy-out-entry c = ?
+array-copy-out-entry c = omega arith
 
--- src/write.rt:169:15
 add-image : tie.Need-add-image Inv-loop μ-loop
-add-image c = ?
+add-image c = omega arith
 
--- src/write.rt:169:9
 element-write-image : tie.Need-element-write-image Inv-loop μ-loop
-element-write-image c = ?
+element-write-image c = omega arith
 
--- src/write.rt:170:9
 add-i : tie.Need-add-i Inv-loop μ-loop
-add-i c = ?
+add-i c = omega arith
 
--- src/write.rt:167:5
 loop-less : tie.Need-loop-less Inv-loop μ-loop
-loop-less c = ?
+loop-less c = omega arith
 
--- src/write.rt:167:5
 loop-again : tie.Need-loop-again Inv-loop μ-loop
-loop-again c = ?
+loop-again c = (omega arith, put-next lineEventAt (lineEventByte (c .before .before .before .args .t2)) _ _ _ _ (c .before .before .loop .inv .1) refl)
 
--- src/write.rt:163:1
 returns : tie.Need-returns Inv-loop μ-loop
-returns c = ?
+returns c = put-all _ _ _ 16 _ (c .before .loop .i) (c .before .loop .inv .0) (c .loop-test .left) (c .before .loop .inv .1)
 
 pub put-line-events-spec : {M : Type 1} → statement M
 put-line-events-spec =

@@ -1,49 +1,48 @@
+-- `put_marks` meets its contract.
+use Prim.Native.Nat.{_+_, _-_, _≤_}
+use native.Mathlib.Omega.{arith}
+use borrow.Author.Needs.{needs}
+use mathlib.Core.Path.{_≡_, refl, _∙_, ap}
+use mathlib.Core.Bool.{false}
+use lib.ListN.{getD}
+use Rattle.image.specs.Internal.Writes.{putTo, markByte}
+use Rattle.image.specs.Layout.{markAt}
+use Rattle.image.proofs.RowLoops.{put-none, put-next, put-all, mark-one}
 use Rattle.image.proofs.write.put_marks.Statement.{statement}
 use Rattle.image.proofs.write.put_marks.Tie as tie
-use Rattle.image.proofs.write.put_marks.Reads as reads
-use Rattle.image.proofs.write.put_marks.Lts as lts
 
 abbrev Inv-loop : tie.InvT-loop
-Inv-loop image₀ row i₀ image i = ?
+Inv-loop image₀ row i₀ image i = (i ≤ 16) × (image ≡ putTo markAt (markByte row) image₀ i)
 
 abbrev μ-loop : tie.MeasureT-loop
-μ-loop image₀ row i₀ image i = ?
+μ-loop image₀ row i₀ image i = 16 - i
 
--- src/write.rt:147:5
 loop-holds : tie.Need-loop-holds Inv-loop μ-loop
-loop-holds c = ?
+loop-holds c = (omega arith, put-none _ _ _)
 
--- src/write.rt:148:26
 array-read-image : tie.Need-array-read-image Inv-loop μ-loop
-array-read-image c = ?
+array-read-image c = omega arith
 
--- src/write.rt:148:26
 cast-image : tie.Need-cast-image Inv-loop μ-loop
-cast-image c = ?
+cast-image c = omega arith
 
--- src/write.rt:148:15
 add-image : tie.Need-add-image Inv-loop μ-loop
-add-image c = ?
+add-image c = omega arith
 
--- src/write.rt:148:9
 element-write-image : tie.Need-element-write-image Inv-loop μ-loop
-element-write-image c = ?
+element-write-image c = omega arith
 
--- src/write.rt:149:9
 add-i : tie.Need-add-i Inv-loop μ-loop
-add-i c = ?
+add-i c = omega arith
 
--- src/write.rt:147:5
 loop-less : tie.Need-loop-less Inv-loop μ-loop
-loop-less c = ?
+loop-less c = omega arith
 
--- src/write.rt:147:5
 loop-again : tie.Need-loop-again Inv-loop μ-loop
-loop-again c = ?
+loop-again c = (omega arith, put-next markAt (markByte (c .before .before .args .t2)) _ _ _ _ (c .before .loop .inv .1) (mark-one (getD (c .before .before .args .t2) (c .before .loop .i) false)))
 
--- src/write.rt:143:1
 returns : tie.Need-returns Inv-loop μ-loop
-returns c = ?
+returns c = put-all _ _ _ 16 _ (c .before .loop .i) (c .before .loop .inv .0) (c .loop-test .left) (c .before .loop .inv .1)
 
 pub put-marks-spec : {M : Type 1} → statement M
 put-marks-spec =

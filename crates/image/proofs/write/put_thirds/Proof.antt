@@ -1,54 +1,49 @@
+-- `put_thirds` meets its contract.
+use Prim.Native.Nat.{_+_, _-_, _≤_}
+use native.Mathlib.Omega.{arith}
+use borrow.Author.Needs.{needs}
+use mathlib.Core.Path.{_≡_, refl, _∙_, ap}
+use Rattle.image.specs.Internal.Writes.{putTo, cByte}
+use Rattle.image.specs.Layout.{cAt}
+use Rattle.image.proofs.RowLoops.{put-none, put-next, put-all}
 use Rattle.image.proofs.write.put_thirds.Statement.{statement}
 use Rattle.image.proofs.write.put_thirds.Tie as tie
-use Rattle.image.proofs.write.put_thirds.Reads as reads
-use Rattle.image.proofs.write.put_thirds.Lts as lts
-use Rattle.image.proofs.number.third_of.Reads as third-of-reads
 
 abbrev Inv-loop : tie.InvT-loop
-Inv-loop image₀ row i₀ image i = ?
+Inv-loop image₀ row i₀ image i = (i ≤ 16) × (image ≡ putTo cAt (cByte row) image₀ i)
 
 abbrev μ-loop : tie.MeasureT-loop
-μ-loop image₀ row i₀ image i = ?
+μ-loop image₀ row i₀ image i = 16 - i
 
--- src/write.rt:123:5
 loop-holds : tie.Need-loop-holds Inv-loop μ-loop
-loop-holds c = ?
+loop-holds c = (omega arith, put-none _ _ _)
 
--- src/write.rt:124:20
 mul-line : tie.Need-mul-line Inv-loop μ-loop
-mul-line c = ?
+mul-line c = omega arith
 
--- src/write.rt:124:20
 array-copy-out-line : tie.Need-array-copy-out-line Inv-loop μ-loop
-array-copy-out-line c = ?
+array-copy-out-line c = omega arith
 
--- src/write.rt:126:25
 third-of-requires : tie.Need-third-of-requires Inv-loop μ-loop
-third-of-requires c κs = ?
+third-of-requires c κs = search needs
 
--- src/write.rt:126:15
 add-image : tie.Need-add-image Inv-loop μ-loop
-add-image c = ?
+add-image c = omega arith
 
--- src/write.rt:126:9
 element-write-image : tie.Need-element-write-image Inv-loop μ-loop
-element-write-image c = ?
+element-write-image c = omega arith
 
--- src/write.rt:127:9
 add-i : tie.Need-add-i Inv-loop μ-loop
-add-i c = ?
+add-i c = omega arith
 
--- src/write.rt:123:5
 loop-less : tie.Need-loop-less Inv-loop μ-loop
-loop-less c = ?
+loop-less c = omega arith
 
--- src/write.rt:123:5
 loop-again : tie.Need-loop-again Inv-loop μ-loop
-loop-again c = ?
+loop-again c = (omega arith, put-next cAt (cByte (c .before .before .before .before .args .t2)) _ _ _ _ (c .before .before .before .loop .inv .1) (c .third-of .ensures))
 
--- src/write.rt:119:1
 returns : tie.Need-returns Inv-loop μ-loop
-returns c = ?
+returns c = put-all _ _ _ 16 _ (c .before .loop .i) (c .before .loop .inv .0) (c .loop-test .left) (c .before .loop .inv .1)
 
 pub put-thirds-spec : {M : Type 1} → statement M
 put-thirds-spec =
