@@ -7,3 +7,4 @@ pub mod Images
 pub mod ImageCalls
 pub mod ByteNumbers
 pub mod CodeSteps
+pub mod Cases
