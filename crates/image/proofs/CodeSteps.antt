@@ -1,5 +1,6 @@
 -- What the functions of the image come to at their ends: rows written one after another, and a call noted.
-use Prim.Native.Nat.{ℕ}
+use Prim.Native.Nat.{ℕ, _≤_, _<_}
+use native.Mathlib.Omega.{arith}
 use native.Mathlib.Nat.{add-zero}
 use borrow.Author.Tests.{not-true, not-false}
 use mathlib.Core.Bool.{Bool, true, false, not, _&&_, cond}
@@ -7,8 +8,8 @@ use mathlib.Core.List.{List}
 use mathlib.Core.Logic.{inl, inr}
 use mathlib.Core.Path.{_≡_, refl, sym, _∙_, ap, subst}
 use lib.ListN.{length, set, replicate}
-use Rattle.image.specs.Types.{Fate, Plan, State, Call, CallFault, Answer, Is, Made, TurnedDown, Reply}
-use Rattle.plan.specs.Faults.{callFaultNumber, answerNumber, isTurnedDown}
+use Rattle.image.specs.Types.{Plan, State, Call, Answer, Is, Made, TurnedDown, Reply}
+use Rattle.plan.specs.Faults.{answerNumber, isTurnedDown}
 use Rattle.plan.specs.Plans.{eventCount, ruleCount}
 use Rattle.plan.proofs.Tests.{either}
 use Rattle.scheduler.specs.Answers.{call}
@@ -17,6 +18,7 @@ use Rattle.scheduler.specs.State.{lineCount}
 use Rattle.image.specs.Layout.{stepAt, attributesAt, kindAt, aAt, bAt, cAt, fateAt, markAt, shutAt, lineEventAt, lineFateAt, imageOf, stateIn, isImage}
 use Rattle.image.specs.Calls.{numberOn, imageAfter, isSound, checkOn}
 use Rattle.image.specs.Internal.Writes.{putTo, written, stepByte, attributesByte, kindByte, aByte, bByte, cByte, fateByte, markByte, lineEventByte, lineFateByte, withPlan, withCall}
+use Rattle.image.proofs.Numbers.{fault-above}
 use Rattle.image.proofs.Bytes.{ShowsPlan, shows-image, call-shown, call-length, written-whole}
 use Rattle.image.proofs.Images.{said-shows, said-whole}
 use Rattle.image.proofs.ImageCalls.{call-plan, number-none, after-none, number-image, after-image, turned-down-image}
@@ -59,19 +61,23 @@ put-plan-rows p b b1 b2 b3 b4 b5 b6 h1 h2 h3 h4 h5 h6 =
 pub put-whole : (s : State) (b1 b2 : List ℕ) → b1 ≡ withPlan (s .plan) (replicate 384 0) → b2 ≡ withCall s b1 → b2 ≡ imageOf s
 put-whole s b1 b2 h e = e ∙ ap (withCall s) h ∙ written-whole s
 
--- what an answer makes of the bytes
-module _ (a : Answer) (b t l : List ℕ) where
-  pub note-is : (f : Fate) → a ≡ Is f → l ≡ t → (_≡_ {A = ℕ} 0 (answerNumber a)) × (l ≡ cond (isTurnedDown a) b t)
-  note-is f h e = (rw h refl, rw h e)
+-- what an answer makes of the bytes: a number above 0 is a refusal
+above : (a : Answer) → 0 < answerNumber a → isTurnedDown a ≡ true
+above (Is x) h = absurd (omega arith)
+above Made h = absurd (omega arith)
+above (TurnedDown f) h = refl
 
-  pub note-made : a ≡ Made → l ≡ t → (_≡_ {A = ℕ} 0 (answerNumber a)) × (l ≡ cond (isTurnedDown a) b t)
-  note-made h e = (rw h refl, rw h e)
+at-zero : (a : Answer) → answerNumber a ≤ 0 → isTurnedDown a ≡ false
+at-zero (Is x) h = refl
+at-zero Made h = refl
+at-zero (TurnedDown f) h = absurd (omega (arith, fault-above f))
 
-pub note-down : (a : Answer) (f : CallFault) (n : ℕ) (b t : List ℕ)
-    → a ≡ TurnedDown f
-    → n ≡ callFaultNumber f
-    → (n ≡ answerNumber a) × (b ≡ cond (isTurnedDown a) b t)
-note-down a f n b t h e = (rw h e, rw h refl)
+module _ (a : Answer) (n : ℕ) (b t : List ℕ) (e : n ≡ answerNumber a) where
+  pub note-down : 0 < n → (n ≡ answerNumber a) × (b ≡ cond (isTurnedDown a) b t)
+  note-down h = let d : isTurnedDown a ≡ true = above a (omega (arith, e)) in (e, rw d)
+
+  pub note-taken : (l : List ℕ) → n ≤ 0 → l ≡ t → (_≡_ {A = ℕ} 0 (answerNumber a)) × (l ≡ cond (isTurnedDown a) b t)
+  note-taken l h k = let d : isTurnedDown a ≡ false = at-zero a (omega (arith, e)) in (omega (arith, e), rw d k)
 
 -- the ends of a function that begins by asking whether the bytes are an image
 module _ (b : List ℕ) (t : Bool) (e : t ≡ isImage b) where

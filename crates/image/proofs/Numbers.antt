@@ -6,10 +6,10 @@ use mathlib.Core.Bool.{Bool, true, false, _&&_, _||_}
 use mathlib.Core.Logic.{_≢_}
 use mathlib.Core.Path.{_≡_, refl, sym, _∙_, ap}
 use lib.Dec.{eqb, ltb}
-use Rattle.image.specs.Types.{Fate, Open, Held, Done, Refused, Lapsed, Rule, Order, Need, Conditional, Record, Answer, TurnedDown, Verdict, Faulty, SheetFault, Cut, BadKind, Full, BadStep, BadAttributes, BadNames, Unenforceable, Extra, CallFault, Unknown, AlreadyClosed, NotClosed, Incoherent}
+use Rattle.image.specs.Types.{Fate, Open, Held, Done, Refused, Lapsed, Rule, Order, Need, Conditional, Record, Answer, Is, Made, TurnedDown, Verdict, Faulty, SheetFault, Cut, BadKind, Full, BadStep, BadAttributes, BadNames, Unenforceable, Extra, CallFault, Unknown, AlreadyClosed, NotClosed, Incoherent}
 use Rattle.plan.specs.Base.{oneIf}
 use Rattle.plan.specs.Fates.{fateNumber}
-use Rattle.plan.specs.Faults.{sheetFaultNumber, callFaultNumber}
+use Rattle.plan.specs.Faults.{sheetFaultNumber, callFaultNumber, answerNumber}
 use Rattle.plan.specs.Records.{ruleOf}
 use Rattle.image.specs.Layout.{fateFrom, ruleKind, ruleA, ruleB, ruleC}
 
@@ -125,5 +125,13 @@ call-number-low Incoherent = omega arith
 pub sheet-byte : (v : Verdict) (f : SheetFault) (at n : ℕ) → v ≡ Faulty f at → n ≡ sheetFaultNumber f → n < 256
 sheet-byte v f at n h e = omega (arith, e, sheet-number-low f)
 
-pub call-byte : (a : Answer) (f : CallFault) (n : ℕ) → a ≡ TurnedDown f → n ≡ callFaultNumber f → n < 256
-call-byte a f n h e = omega (arith, e, call-number-low f)
+pub answer-byte : (a : Answer) → answerNumber a < 256
+answer-byte (Is x) = omega arith
+answer-byte Made = omega arith
+answer-byte (TurnedDown f) = omega (arith, call-number-low f)
+
+pub fault-above : (f : CallFault) → 0 < callFaultNumber f
+fault-above Unknown = omega arith
+fault-above AlreadyClosed = omega arith
+fault-above NotClosed = omega arith
+fault-above Incoherent = omega arith

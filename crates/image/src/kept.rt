@@ -3,7 +3,7 @@ use super::read::state_in;
 use super::test::is_image;
 use super::write::put_call;
 use plan::answer::Answer;
-use plan::answer::call_fault_number;
+use plan::answer::answer_number;
 use plan::calls::Call;
 use scheduler::state::State;
 ghost use mathlib.Core.Path.{_≡_};
@@ -52,17 +52,12 @@ fn note(image: &mut [u8; 384], answer: Answer, next: State) -> u8
     ensures number { λ r. ⌜ r ≡ answerNumber answer ⌝ }
     ensures bytes { λ _. ⌜ now (image .exit) ≡ cond (isTurnedDown answer) (now (image .entry)) (withCall next (now (image .entry))) ⌝ }
 {
-    match answer {
-        Answer::Is(fate) => {
-            put_call(image, next);
-            0
-        }
-        Answer::Made => {
-            put_call(image, next);
-            0
-        }
-        Answer::TurnedDown(fault) => call_fault_number(fault) as u8,
+    let number = answer_number(answer) as u8;
+    if 0 < number {
+        return number;
     }
+    put_call(image, next);
+    0
 }
 
 // Does nothing. The proof of a call has to be told that the bytes are as many as their type says, and an array given by
