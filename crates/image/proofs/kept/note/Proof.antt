@@ -16,7 +16,7 @@ cast-number c = omega (arith, c .answer-number .ensures, answer-byte (c .before 
 returns : tie.Need-returns
 returns c =
     let a = c .before .before .args in
-    note-down (a .answer) _ (a .image .now) (withCall (a .next) (a .image .now)) (c .before .answer-number .ensures) (c .if1 .taken)
+    note-down (a .answer) _ (a .image .now) (withCall (a .next) (a .image .now)) (c .before .answer-number .ensures) (omega arith)
 
 put-call-requires : tie.Need-put-call-requires
 put-call-requires c κs = search needs
@@ -26,7 +26,7 @@ returns-2 c =
     let n = c .before .before .before in
     let a = n .before .args in
     note-taken (a .answer) _ (a .image .now) (withCall (a .next) (a .image .now)) (n .answer-number .ensures) _
-    (c .before .before .if1 .left) (c .put-call .ensures)
+    (omega arith) (c .put-call .ensures)
 
 pub note-spec : {M : Type 1} → statement M
 note-spec =
