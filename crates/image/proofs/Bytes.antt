@@ -1,10 +1,10 @@
 -- Bytes that show a state, place by place: they are its image.
 use Prim.Native.Nat.{ℕ, _+_, _≤_, _<_}
 use native.Mathlib.Omega.{arith}
-use mathlib.Core.Bool.{Bool, true, false}
-use mathlib.Core.List.{List, [], _∷_, _++_}
+use mathlib.Core.Bool.{false}
+use mathlib.Core.List.{List}
 use mathlib.Core.Path.{_≡_, refl, sym, _∙_, ap, subst}
-use lib.ListN.{length, getD, drop, replicate, length-replicate, getD-replicate}
+use lib.ListN.{length, getD, replicate, length-replicate, getD-replicate}
 use Rattle.image.specs.Types.{Event, RuleLine, Standing, Entry, Plan, State}
 use Rattle.plan.specs.Base.{oneIf, tabulate, readAt}
 use Rattle.plan.specs.Fates.{fateNumber, blankStanding}
@@ -12,7 +12,7 @@ use Rattle.plan.specs.Plans.{eventCount, ruleCount, stepOf, attributesOf, ruleA
 use Rattle.plan.specs.Histories.{blankEntry}
 use Rattle.scheduler.specs.State.{fateOf, brokenAt, closedAt, lineCount}
 use Rattle.image.specs.Layout.{stepAt, attributesAt, kindAt, aAt, bAt, cAt, fateAt, markAt, shutAt, lineEventAt, lineFateAt, spareAt, ruleKind, ruleA, ruleB, ruleC, placeOf, imageOf, byteAt}
-use Rattle.image.specs.Internal.Writes.{Row, written, planRows, callRows, withPlan, withCall}
+use Rattle.image.specs.Internal.Writes.{written, planRows, callRows, withPlan, withCall}
 use Rattle.image.proofs.Rows.{read-get, length-written, rowOf, written-apart, written-row, split-off, split-last}
 
 -- what the bytes show of a plan

@@ -1,11 +1,10 @@
 -- Images by computation: case A byte by byte, first, with one event held, and with both done; numbers of calls; and
 -- damaged images.
 use Prim.Native.Nat.{ℕ}
-use mathlib.Core.Bool.{true, false}
 use mathlib.Core.List.{List, [], _∷_, _++_, map}
 use mathlib.Core.Path.{_≡_, refl}
 use lib.ListN.{set, replicate}
-use Rattle.image.specs.Types.{State, Call, Submit, Close, Finish}
+use Rattle.image.specs.Types.{Submit, Close, Finish}
 use Rattle.plan.specs.Base.{anyBelow, allBelow, firstOf, tabulate, lowest}
 use Rattle.plan.specs.Plans.{hasEvent}
 use Rattle.plan.specs.Rules.{named, enforceable, soundEvent, soundRule, bars, makesWait, forbids, owes, ready}

@@ -1,6 +1,6 @@
 -- The theorems on calls made on an image, one and many.
 use Prim.Native.Nat.{ℕ}
-use mathlib.Core.Bool.{Bool, true, false, _&&_, cond}
+use mathlib.Core.Bool.{true, false}
 use mathlib.Core.List.{List, [], _∷_}
 use mathlib.Core.Logic.{_≢_, inl, inr}
 use mathlib.Core.Option.{Option, none, some}
@@ -10,7 +10,7 @@ use Rattle.image.specs.Types.{State, Plan, Call, CallFault, Answer, Is, 
 use Rattle.plan.specs.Fates.{blankStanding}
 use Rattle.plan.specs.Faults.{answerNumber, isTurnedDown}
 use Rattle.plan.specs.Histories.{blankEntry}
-use Rattle.plan.proofs.Tests.{either, clash}
+use Rattle.plan.proofs.Tests.{either}
 use Rattle.scheduler.specs.Answers.{callFault, call}
 use Rattle.scheduler.specs.Lists.{scheduler, after}
 use Rattle.scheduler.specs.Demand.{seen, Demand3}
@@ -22,7 +22,7 @@ use Rattle.theory.proofs.Demands.{demand3}
 use Rattle.theory.proofs.SheetPlans.{sheet-first, sheet-lengths}
 use Rattle.image.specs.Layout.{imageOf, stateIn, isImage, Whole}
 use Rattle.image.specs.Calls.{numberOn, imageAfter, numbersOn, imagesAfter, numbersOf, Hosted}
-use Rattle.image.proofs.Images.{image-is, read-back, write-back, said-whole}
+use Rattle.image.proofs.Images.{image-is, read-back, write-back}
 
 -- a call keeps the plan, and the arrays' lengths
 pub call-plan : (s : State) (c : Call) → Sized s → call s c .state .plan ≡ s .plan

@@ -1,28 +1,26 @@
 -- The theorems on images: exactly the 384 bytes that a state is written with are images, and an image and its state
 -- say each other.
-use Prim.Native.Nat.{ℕ, zero, suc, _+_, _<_}
-use native.Mathlib.Omega.{arith}
-use borrow.Author.Tests.{eqb-true, lt-ltb}
+use Prim.Native.Nat.{ℕ, _+_, _<_}
+use borrow.Author.Tests.{eqb-true}
 use mathlib.Core.Bool.{Bool, true, false, _&&_, _||_}
-use mathlib.Core.List.{List, [], _∷_, _++_}
-use mathlib.Core.Path.{_≡_, refl, sym, _∙_, ap, subst}
+use mathlib.Core.List.{List}
+use mathlib.Core.Path.{_≡_, refl, sym, _∙_, ap}
 use lib.Dec.{eqb, ltb}
-use lib.ListN.{length, getD, replicate}
-use lib.Pow.{areBytes}
-use Rattle.image.specs.Types.{Fate, Event, Rule, RuleLine, Standing, Entry, Record, Plan, State}
+use lib.ListN.{length}
+use Rattle.image.specs.Types.{Fate, Event, Rule, RuleLine, Standing, Entry, State}
 use Rattle.plan.specs.Base.{oneIf, allBelow, tabulate, readAt}
 use Rattle.plan.specs.Fates.{fateNumber, blankStanding}
-use Rattle.plan.specs.Plans.{eventCount, ruleCount, eventAt, stepOf, attributesOf, ruleAt, blankEvent, blankRule}
+use Rattle.plan.specs.Plans.{eventAt, ruleAt, blankEvent, blankRule}
 use Rattle.plan.specs.Records.{ruleOf}
 use Rattle.plan.specs.Histories.{blankEntry}
-use Rattle.plan.proofs.Tests.{and-left, and-right, all-at, all-of}
-use Rattle.scheduler.specs.State.{fateOf, brokenAt, closedAt, lineCount, Sized}
+use Rattle.plan.proofs.Tests.{all-at, all-of}
+use Rattle.scheduler.specs.State.{fateOf, brokenAt, closedAt}
 use Rattle.theory.proofs.Conjunctions.{and-three, and-four}
 use Rattle.theory.proofs.Observation.{length-tabulate, array-tabulate}
-use Rattle.image.specs.Layout.{stepAt, attributesAt, kindAt, aAt, bAt, cAt, fateAt, markAt, shutAt, lineEventAt, lineFateAt, spareAt, ruleKind, ruleA, ruleB, ruleC, placeOf, imageOf, byteAt, fateFrom, eventIn, recordIn, ruleIn, standingIn, entryIn, planIn, stateIn, placeOk, isImage, Whole, isByte, placeFits, fits}
-use Rattle.image.proofs.Rows.{read-get, read-tabulate}
+use Rattle.image.specs.Layout.{kindAt, aAt, bAt, cAt, fateAt, markAt, shutAt, lineFateAt, spareAt, ruleKind, ruleA, ruleB, ruleC, placeOf, imageOf, byteAt, fateFrom, eventIn, recordIn, ruleIn, standingIn, entryIn, planIn, stateIn, placeOk, isImage, Whole}
+use Rattle.image.proofs.Rows.{read-tabulate}
 use Rattle.image.proofs.Numbers.{fate-back, fate-low, number-back, mark-back, mark-low, one-back, recordOf, rule-back, rule-passes, RuleBytes, rule-bytes}
-use Rattle.image.proofs.Bytes.{ShowsPlan, ShowsCalls, Shows, shows-image, image-shows, image-length}
+use Rattle.image.proofs.Bytes.{Shows, shows-image, image-shows}
 
 -- the parts of a conjunction of six tests
 pub and-six : (a b c d e f : Bool)

@@ -2,18 +2,16 @@
 -- offset on, and tests of every place.
 use Prim.Native.Nat.{ℕ, zero, suc, _+_, _≤_, _<_}
 use native.Mathlib.Numerals.{add-one}
-use native.Mathlib.Nat.{le-antisymm, zero-add}
+use native.Mathlib.Nat.{le-antisymm}
 use native.Mathlib.Decide.{ℕ-discrete}
 use native.Mathlib.Omega.{arith}
 use mathlib.Core.Bool.{Bool, true, false, _&&_}
 use mathlib.Core.List.{List}
-use mathlib.Core.Path.{_≡_, refl, sym, _∙_, ap}
+use mathlib.Core.Path.{_≡_, refl, _∙_, ap}
 use mir.Val.{boolByte}
 use lib.ListN.{length, getD, set, replicate, length-set, length-replicate}
 use lib.Seq.{getD-set-same, getD-set-other}
 use Rattle.plan.specs.Base.{oneIf, allBelow, tabulate}
-use Rattle.plan.proofs.Tests.{and-both}
-use Rattle.plan.proofs.Loops.{all-fail}
 use Rattle.theory.proofs.Observation.{as-tabulate}
 use Rattle.image.specs.Internal.Writes.{putTo}
 
@@ -76,7 +74,7 @@ pub mark-one : (b : Bool) → boolByte b ≡ oneIf b
 mark-one true = refl
 mark-one false = refl
 
--- tests of every place: as they go on, and where the loop returns at the first that fails
+-- tests of every place
 module _ (t : ℕ → Bool) where
   pub all-none : true ≡ allBelow 0 t
   unfolding allBelow
@@ -85,12 +83,6 @@ module _ (t : ℕ → Bool) where
   pub all-next : (n : ℕ) (a b : Bool) → b ≡ allBelow n t → a ≡ t n → (a && b) ≡ allBelow (n + 1) t
   unfolding allBelow
   all-next n a b h e = rw add-one (ap (λ (x : Bool). a && x) h ∙ ap (λ (x : Bool). x && allBelow n t) e)
-
-  pub all-passed : (n : ℕ) → true ≡ allBelow n t → t n ≡ true → true ≡ allBelow (n + 1) t
-  all-passed n h e = all-next n true true h (sym e)
-
-  pub all-failed : (k n : ℕ) → n < k → t n ≡ false → false ≡ allBelow k t
-  all-failed k n lt e = sym (all-fail k t n lt e)
 
   pub all-all : (k n : ℕ) (b : Bool) → n ≤ k → k ≤ n → b ≡ allBelow n t → b ≡ allBelow k t
   all-all k n b le ge h = h ∙ ap (λ (x : ℕ). allBelow x t) (le-antisymm le ge)

@@ -1,19 +1,19 @@
 -- Bytes after rows are written over them, and bytes taken apart into rows.
 use Prim.Native.Nat.{ℕ, zero, suc, _+_, _≤_, _<_}
 use native.Mathlib.Omega.{arith}
-use native.Mathlib.Nat.{add-zero, zero-add}
+use native.Mathlib.Nat.{zero-add}
 use native.Mathlib.Decide.{ℕ-discrete}
 use borrow.Author.Tests.{leb-true, lt-ltb}
-use mathlib.Core.Bool.{Bool, true, false, _&&_, _||_, cond}
+use mathlib.Core.Bool.{Bool, true, _&&_, _||_}
 use mathlib.Core.List.{List, [], _∷_, _++_}
 use mathlib.Core.Logic.{_⊎_, inl, inr}
 use mathlib.Core.Path.{_≡_, refl, sym, _∙_, ap}
-use lib.Dec.{leb, ltb}
-use lib.ListN.{length, getD, set, take, drop, replicate, length-set, length-replicate, length-drop, getD-replicate, take-append-drop}
+use lib.Dec.{leb}
+use lib.ListN.{length, getD, take, drop, replicate, length-set, length-replicate, length-drop, getD-replicate, take-append-drop}
 use lib.Seq.{getD-set-same, getD-set-other, ext-getD, getD-take, getD-drop, drop-drop, length-take-le}
 use Rattle.plan.specs.Base.{tabulate, readAt}
 use Rattle.plan.proofs.Tests.{and-left, and-right, or-either}
-use Rattle.theory.proofs.Observation.{length-tabulate, getD-tabulate, as-tabulate}
+use Rattle.theory.proofs.Observation.{getD-tabulate, as-tabulate}
 use Rattle.image.specs.Layout.{byteAt}
 use Rattle.image.specs.Internal.Writes.{Row, putTo, written, one}
 

@@ -1,7 +1,7 @@
 -- Calls on an image: their numbers, the bytes after them, and what is asked of a kept state. Bytes that are no image
 -- are answered with 12 and stay as they are.
 use Prim.Native.Nat.{ℕ}
-use mathlib.Core.Bool.{Bool, true, false, _&&_, cond}
+use mathlib.Core.Bool.{Bool, _&&_, cond}
 use mathlib.Core.List.{List, [], _∷_}
 use mathlib.Core.Path.{_≡_}
 use Rattle.image.specs.Types.{State, Call, Verdict, Admitted, Faulty, Outcome}

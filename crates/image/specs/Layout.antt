@@ -1,7 +1,7 @@
 -- A state as 384 bytes: where each part stands, the bytes of a state, the state that bytes say, and which bytes are
 -- an image. The layout is fixed for ever: a host may keep the bytes from one version of the library to the next.
 use Prim.Native.Nat.{ℕ, _+_}
-use mathlib.Core.Bool.{Bool, true, false, _&&_, _||_}
+use mathlib.Core.Bool.{Bool, _&&_, _||_}
 use mathlib.Core.List.{List, [], _∷_, _++_}
 use mathlib.Core.Path.{_≡_}
 use lib.Dec.{eqb, ltb}

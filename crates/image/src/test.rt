@@ -1,4 +1,4 @@
-// Which bytes are an image.
+// Which bytes are an image. No test ends its loop early: whole rows are compared at once then.
 ghost use mathlib.Core.Path.{_≡_};
 ghost use Prim.Native.Nat.{_+_, _<_};
 ghost use lib.Dec.{eqb, ltb};
@@ -16,14 +16,13 @@ pub fn is_image(image: &[u8; 384]) -> bool
 fn are_places(image: &[u8; 384]) -> bool
     ensures { λ r. ⌜ r ≡ allBelow 16 (placeOk (now (image .entry))) ⌝ }
 {
+    let mut ok = true;
     let mut i: usize = 0;
     while i < 16 {
-        if !is_place(image, i) {
-            return false;
-        }
+        ok = is_place(image, i) & ok;
         i += 1;
     }
-    true
+    ok
 }
 
 fn is_place(image: &[u8; 384], i: usize) -> bool
@@ -43,14 +42,13 @@ fn is_place(image: &[u8; 384], i: usize) -> bool
 fn are_closings(image: &[u8; 384]) -> bool
     ensures { λ r. ⌜ r ≡ allBelow 8 (λ k. ltb (byteAt (now (image .entry)) (shutAt + k)) 2) ⌝ }
 {
+    let mut ok = true;
     let mut i: usize = 0;
     while i < 8 {
-        if 2 <= image[132 + i] {
-            return false;
-        }
+        ok = (image[132 + i] < 2) & ok;
         i += 1;
     }
-    true
+    ok
 }
 
 // Are the spare bytes zero?

@@ -8,7 +8,6 @@ use mathlib.Core.Path.{_≡_, refl, sym, _∙_, ap}
 use lib.ListN.{length}
 use Rattle.plan.specs.declared.answer.Verdict.the-variants.{Admitted}
 use Rattle.scheduler.specs.declared.state.State.{State}
-use Rattle.scheduler.specs.declared.reply.Outcome.{Outcome}
 use Rattle.scheduler.specs.Runner.{report}
 use Rattle.image.specs.Layout.{stateIn}
 use Rattle.image.specs.Calls.{isSound, keptOutcome, reportOn}

@@ -1,6 +1,6 @@
 -- Rows of bytes written one after another over bytes, and what a plan and a state write.
 use Prim.Native.Nat.{ℕ, zero, suc, _+_}
-use mathlib.Core.Bool.{Bool, true, false}
+use mathlib.Core.Bool.{Bool, false}
 use mathlib.Core.List.{List, [], _∷_}
 use lib.ListN.{getD, set}
 use Rattle.image.specs.Types.{Event, RuleLine, Standing, Plan, Entry, State}

@@ -1,5 +1,4 @@
 -- `fate_from` meets its contract.
-use native.Mathlib.Omega.{arith}
 use Rattle.image.proofs.Numbers.{fate-past}
 use borrow.Author.Needs.{needs}
 use Rattle.image.proofs.number.fate_from.Statement.{statement}

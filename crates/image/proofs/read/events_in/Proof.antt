@@ -1,8 +1,7 @@
 -- `events_in` meets its contract.
-use Prim.Native.Nat.{_+_, _-_, _≤_}
+use Prim.Native.Nat.{_-_, _≤_}
 use native.Mathlib.Omega.{arith}
-use borrow.Author.Needs.{needs}
-use mathlib.Core.Path.{_≡_, refl, _∙_, ap}
+use mathlib.Core.Path.{_≡_, refl}
 use lib.ListN.{replicate}
 use Rattle.plan.specs.Plans.{blankEvent}
 use Rattle.image.specs.Layout.{eventIn}

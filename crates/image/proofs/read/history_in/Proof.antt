@@ -2,7 +2,7 @@
 use Prim.Native.Nat.{_+_, _-_, _≤_}
 use native.Mathlib.Omega.{arith}
 use borrow.Author.Needs.{needs}
-use mathlib.Core.Path.{_≡_, refl, _∙_, ap}
+use mathlib.Core.Path.{_≡_, ap}
 use lib.ListN.{replicate}
 use Rattle.plan.specs.Histories.{blankEntry}
 use Rattle.image.specs.Types.{Fate}
@@ -48,7 +48,11 @@ loop-less : tie.Need-loop-less Inv-loop μ-loop
 loop-less c = omega arith
 
 loop-again : tie.Need-loop-again Inv-loop μ-loop
-loop-again c = (omega arith, fill-next (entryIn (c .before .before .before .before .before .args .image .now)) _ _ _ _ (c .before .before .before .before .loop .inv .1) (ap (λ (x : Fate). record { event = byteAt (c .before .before .before .before .before .args .image .now) (lineEventAt + c .before .before .before .before .loop .i); fate = x }) (c .before .fate-from .ensures)))
+loop-again c =
+    let l = c .before .before .before .before in
+    let b = l .before .args .image .now in
+    let fate = c .before .fate-from .ensures in
+    (omega arith, fill-next (entryIn b) _ _ _ _ (l .loop .inv .1) (ap (λ (x : Fate). record { event = byteAt b (lineEventAt + l .loop .i); fate = x }) fate))
 
 returns : tie.Need-returns Inv-loop μ-loop
 returns c = fill-all 16 blankEntry _ _ (c .before .loop .i) (c .before .loop .inv .0) (c .loop-test .left) (c .before .loop .inv .1)

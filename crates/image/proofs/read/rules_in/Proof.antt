@@ -1,8 +1,8 @@
 -- `rules_in` meets its contract.
-use Prim.Native.Nat.{_+_, _-_, _≤_}
+use Prim.Native.Nat.{_-_, _≤_}
 use native.Mathlib.Omega.{arith}
 use borrow.Author.Needs.{needs}
-use mathlib.Core.Path.{_≡_, refl, _∙_, ap}
+use mathlib.Core.Path.{_≡_, ap}
 use lib.ListN.{replicate}
 use Rattle.plan.specs.Plans.{blankRule}
 use Rattle.image.specs.Types.{Rule}
@@ -60,7 +60,9 @@ loop-less : tie.Need-loop-less Inv-loop μ-loop
 loop-less c = omega arith
 
 loop-again : tie.Need-loop-again Inv-loop μ-loop
-loop-again c = (omega arith, fill-next (ruleIn (c .before .before .before .before .before .before .before .args .image .now)) _ _ _ _ (c .before .before .before .before .before .before .loop .inv .1) (ap (λ (x : Rule). record { rule = x }) (c .rule-from .ensures)))
+loop-again c =
+    let l = c .before .before .before .before .before .before in
+    (omega arith, fill-next (ruleIn (l .before .args .image .now)) _ _ _ _ (l .loop .inv .1) (ap (λ (x : Rule). record { rule = x }) (c .rule-from .ensures)))
 
 returns : tie.Need-returns Inv-loop μ-loop
 returns c = fill-all 16 blankRule _ _ (c .before .loop .i) (c .before .loop .inv .0) (c .loop-test .left) (c .before .loop .inv .1)

@@ -1,8 +1,8 @@
 -- `standings_in` meets its contract.
-use Prim.Native.Nat.{_+_, _-_, _≤_}
+use Prim.Native.Nat.{_-_, _≤_}
 use native.Mathlib.Omega.{arith}
 use borrow.Author.Needs.{needs}
-use mathlib.Core.Path.{_≡_, refl, _∙_, ap}
+use mathlib.Core.Path.{_≡_, ap}
 use lib.ListN.{replicate}
 use Rattle.plan.specs.Fates.{blankStanding}
 use Rattle.image.specs.Types.{Fate}
@@ -39,7 +39,9 @@ loop-less : tie.Need-loop-less Inv-loop μ-loop
 loop-less c = omega arith
 
 loop-again : tie.Need-loop-again Inv-loop μ-loop
-loop-again c = (omega arith, fill-next (standingIn (c .before .before .before .before .args .image .now)) _ _ _ _ (c .before .before .before .loop .inv .1) (ap (λ (x : Fate). record { fate = x }) (c .fate-from .ensures)))
+loop-again c =
+    let l = c .before .before .before in
+    (omega arith, fill-next (standingIn (l .before .args .image .now)) _ _ _ _ (l .loop .inv .1) (ap (λ (x : Fate). record { fate = x }) (c .fate-from .ensures)))
 
 returns : tie.Need-returns Inv-loop μ-loop
 returns c = fill-all 16 blankStanding _ _ (c .before .loop .i) (c .before .loop .inv .0) (c .loop-test .left) (c .before .loop .inv .1)

@@ -24,7 +24,9 @@ element-copy-out-history-len c = search needs
 
 returns : tie.Need-returns
 unfolding stateIn
-returns c = simp (c .before .before .before .before .before .plan-in .ensures, c .before .before .before .before .standings-in .ensures, c .before .before .before .broken-in .ensures, c .before .before .closed-in .ensures, c .before .history-in .ensures)
+returns c =
+    let m = c .before .before .before in
+    simp (m .before .before .plan-in .ensures, m .before .standings-in .ensures, m .broken-in .ensures, c .before .before .closed-in .ensures, c .before .history-in .ensures)
 
 pub state-in-spec : {M : Type 1} → statement M
 state-in-spec =

@@ -1,7 +1,6 @@
 -- `is_rest_spare` meets its contract.
 use Prim.Native.Nat.{_+_, _-_, _≤_}
 use native.Mathlib.Omega.{arith}
-use borrow.Author.Needs.{needs}
 use mathlib.Core.Path.{_≡_, refl}
 use lib.Dec.{eqb}
 use Rattle.plan.specs.Base.{allBelow}

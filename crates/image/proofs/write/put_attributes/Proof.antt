@@ -1,8 +1,7 @@
 -- `put_attributes` meets its contract.
-use Prim.Native.Nat.{_+_, _-_, _≤_}
+use Prim.Native.Nat.{_-_, _≤_}
 use native.Mathlib.Omega.{arith}
-use borrow.Author.Needs.{needs}
-use mathlib.Core.Path.{_≡_, refl, _∙_, ap}
+use mathlib.Core.Path.{_≡_, refl}
 use Rattle.image.specs.Internal.Writes.{putTo, attributesByte}
 use Rattle.image.specs.Layout.{attributesAt}
 use Rattle.image.proofs.RowLoops.{put-none, put-next, put-all}

@@ -1,8 +1,8 @@
 -- `put_line_fates` meets its contract.
-use Prim.Native.Nat.{_+_, _-_, _≤_}
+use Prim.Native.Nat.{_-_, _≤_}
 use native.Mathlib.Omega.{arith}
 use borrow.Author.Needs.{needs}
-use mathlib.Core.Path.{_≡_, refl, _∙_, ap}
+use mathlib.Core.Path.{_≡_}
 use Rattle.image.specs.Internal.Writes.{putTo, lineFateByte}
 use Rattle.image.specs.Layout.{lineFateAt}
 use Rattle.image.proofs.RowLoops.{put-none, put-next, put-all}

@@ -20,8 +20,11 @@ verdict-number-requires : tie.Need-verdict-number-requires
 verdict-number-requires c κs = search needs
 
 returns : tie.Need-returns
-returns c = let read = c .before .before .before .before .before .read-sheet .ensures in
-    (c .verdict-number .ensures ∙ ap (λ (x : Reading). verdictNumber (x .verdict)) read, (c .before .before .put-state .ensures ∙ ap (λ (x : Reading). imageOf (x .state)) read, c .before .verdict-offset .ensures ∙ ap (λ (x : Reading). verdictOffset (x .verdict)) read))
+returns c =
+    let read = c .before .before .before .before .before .read-sheet .ensures in
+    let number = c .verdict-number .ensures ∙ ap (λ (x : Reading). verdictNumber (x .verdict)) read in
+    let bytes = c .before .before .put-state .ensures ∙ ap (λ (x : Reading). imageOf (x .state)) read in
+    (number, (bytes, c .before .verdict-offset .ensures ∙ ap (λ (x : Reading). verdictOffset (x .verdict)) read))
 
 pub sinewhopa-open-spec : {M : Type 1} → statement M
 sinewhopa-open-spec =
