@@ -77,14 +77,8 @@ pub fn is_settled(x: Fate) -> bool
     }
 }
 
-// Two fates are compared by their numbers.
-pub fn is_same(x: Fate, y: Fate) -> bool
-    ensures { λ r. ⌜ r ≡ sameFate x y ⌝ }
-{
-    fate_number(x) == fate_number(y)
-}
-
-fn fate_number(x: Fate) -> u8
+// The number of a fate, as images have it.
+pub fn fate_number(x: Fate) -> u8
     ensures { λ r. ⌜ r ≡ fateNumber x ⌝ }
 {
     match x {
@@ -94,4 +88,11 @@ fn fate_number(x: Fate) -> u8
         Fate::Refused => 3,
         Fate::Lapsed => 4,
     }
+}
+
+// Two fates are compared by their numbers.
+pub fn is_same(x: Fate, y: Fate) -> bool
+    ensures { λ r. ⌜ r ≡ sameFate x y ⌝ }
+{
+    fate_number(x) == fate_number(y)
 }

@@ -1,4 +1,7 @@
-// The static library: what include/sinewhopa.h declares.
+// The static library: what include/sinewhopa.h declares. Here the run of a whole list; in state.rt single calls on a
+// state that the host keeps.
+pub mod state;
+
 ghost use mathlib.Core.Path.{_≡_};
 ghost use Prim.Native.Nat.{_≤_};
 ghost use lib.ListN.{length};

@@ -24,19 +24,19 @@ use Rattle.theory.proofs.HistoryInvariant.{HistoryListed, BlankBeyond, 
 
 -- lists made from a function
 module _ {A : Type 0} where
-  length-tabulate : (n i : ℕ) (g : ℕ → A) → length (tabulate n i g) ≡ n
+  pub length-tabulate : (n i : ℕ) (g : ℕ → A) → length (tabulate n i g) ≡ n
   unfolding tabulate
   length-tabulate zero i g = refl
   length-tabulate (suc n) i g = ap suc (length-tabulate n (suc i) g)
 
-  getD-tabulate : (n i : ℕ) (g : ℕ → A) (k : ℕ) (d : A) → k < n → getD (tabulate n i g) k d ≡ g (i + k)
+  pub getD-tabulate : (n i : ℕ) (g : ℕ → A) (k : ℕ) (d : A) → k < n → getD (tabulate n i g) k d ≡ g (i + k)
   unfolding tabulate
   getD-tabulate zero i g k d lt = absurd (omega arith)
   getD-tabulate (suc n) i g zero d lt = ap g (sym (add-zero i))
   getD-tabulate (suc n) i g (suc k) d lt = getD-tabulate n (suc i) g k d (omega arith) ∙ ap g (omega arith)
 
   -- a list of n elements is the one made from its elements
-  as-tabulate : (n : ℕ) (l : List A) (g : ℕ → A) (d : A)
+  pub as-tabulate : (n : ℕ) (l : List A) (g : ℕ → A) (d : A)
       → length l ≡ n
       → ((k : ℕ) → k < n → getD l k d ≡ g k)
       → l ≡ tabulate n 0 g
@@ -45,7 +45,7 @@ module _ {A : Type 0} where
       (λ k lt. h k (omega arith) ∙ sym (getD-tabulate n 0 g k d (omega arith) ∙ ap g (zero-add k)))
 
   -- the same by readings of an array of n elements
-  array-tabulate : (n : ℕ) (l : List A) (g : ℕ → A) (d : A)
+  pub array-tabulate : (n : ℕ) (l : List A) (g : ℕ → A) (d : A)
       → length l ≡ n
       → ((k : ℕ) → k < n → readAt n l k d ≡ g k)
       → l ≡ tabulate n 0 g

@@ -271,12 +271,21 @@ sheet-plan b s h = go (sheetPlan b) refl
 pub sheet-first : (b : List ℕ) (s : State) → readSheet b ≡ admitted s → s ≡ firstState (s .plan)
 sheet-first b s h = let e = sheet-plan b s h .first in e ∙ ap (λ (t : State). firstState (t .plan)) (sym e)
 
-pub sheet-sound : (b : List ℕ) (s : State) → readSheet b ≡ admitted s → Sound (s .plan)
+sheet-read : (b : List ℕ) (s : State) → readSheet b ≡ admitted s → Read (s .plan)
 unfolding readPlan
-sheet-sound b s h =
+sheet-read b s h =
     let q = sheet-plan b s h in
-    let r = read-from (length b + 1) b 0 emptyPlan (q .plan) (q .end) read-empty (q .reads) in
-    subst (λ (t : State). Sound (t .plan)) (sym (q .first)) (r .sound)
+    subst (λ (t : State). Read (t .plan)) (sym (q .first))
+    (read-from (length b + 1) b 0 emptyPlan (q .plan) (q .end) read-empty (q .reads))
+
+pub sheet-sound : (b : List ℕ) (s : State) → readSheet b ≡ admitted s → Sound (s .plan)
+sheet-sound b s h = sheet-read b s h .sound
+
+-- its plan's arrays have their lengths
+pub sheet-lengths : (b : List ℕ) (s : State)
+    → readSheet b ≡ admitted s
+    → (length (s .plan .events) ≡ 16) × (length (s .plan .rules) ≡ 16)
+sheet-lengths b s h = let r = sheet-read b s h in (r .events-len, r .rules-len)
 
 -- a sheet turned down
 pub sheet-refused : (b : List ℕ) (f : SheetFault) (at : ℕ)

@@ -1,0 +1,31 @@
+-- `is_image` meets its contract.
+use Rattle.image.specs.Layout.{isImage}
+use borrow.Author.Needs.{needs}
+use Rattle.image.proofs.test.is_image.Statement.{statement}
+use Rattle.image.proofs.test.is_image.Tie as tie
+
+element-copy-out-result : tie.Need-element-copy-out-result
+element-copy-out-result c = search needs
+
+are-places-requires : tie.Need-are-places-requires
+are-places-requires c κs = search needs
+
+are-closings-requires : tie.Need-are-closings-requires
+are-closings-requires c κs = search needs
+
+is-rest-spare-requires : tie.Need-is-rest-spare-requires
+is-rest-spare-requires c κs = search needs
+
+returns : tie.Need-returns
+unfolding isImage
+returns c = simp (c .before .before .are-places .ensures, c .before .are-closings .ensures, c .is-rest-spare .ensures)
+
+pub is-image-spec : {M : Type 1} → statement M
+is-image-spec =
+    tie.close
+    (tie.spec
+    element-copy-out-result
+    are-places-requires
+    are-closings-requires
+    is-rest-spare-requires
+    returns)

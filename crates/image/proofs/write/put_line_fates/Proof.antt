@@ -1,0 +1,63 @@
+-- `put_line_fates` meets its contract.
+use Prim.Native.Nat.{_-_, _≤_}
+use native.Mathlib.Omega.{arith}
+use borrow.Author.Needs.{needs}
+use mathlib.Core.Path.{_≡_}
+use Rattle.image.specs.Internal.Writes.{putTo, lineFateByte}
+use Rattle.image.specs.Layout.{lineFateAt}
+use Rattle.image.proofs.RowLoops.{put-none, put-next, put-all}
+use Rattle.image.proofs.write.put_line_fates.Statement.{statement}
+use Rattle.image.proofs.write.put_line_fates.Tie as tie
+
+abbrev Inv-loop : tie.InvT-loop
+Inv-loop image₀ row i₀ image i = (i ≤ 16) × (image ≡ putTo lineFateAt (lineFateByte row) image₀ i)
+
+abbrev μ-loop : tie.MeasureT-loop
+μ-loop image₀ row i₀ image i = 16 - i
+
+loop-holds : tie.Need-loop-holds Inv-loop μ-loop
+loop-holds c = (omega arith, put-none _ _ _)
+
+mul-entry : tie.Need-mul-entry Inv-loop μ-loop
+mul-entry c = omega arith
+
+array-copy-out-entry : tie.Need-array-copy-out-entry Inv-loop μ-loop
+array-copy-out-entry c = omega arith
+
+fate-number-requires : tie.Need-fate-number-requires Inv-loop μ-loop
+fate-number-requires c κs = search needs
+
+add-image : tie.Need-add-image Inv-loop μ-loop
+add-image c = omega arith
+
+element-write-image : tie.Need-element-write-image Inv-loop μ-loop
+element-write-image c = omega arith
+
+add-i : tie.Need-add-i Inv-loop μ-loop
+add-i c = omega arith
+
+loop-less : tie.Need-loop-less Inv-loop μ-loop
+loop-less c = omega arith
+
+loop-again : tie.Need-loop-again Inv-loop μ-loop
+loop-again c = (omega arith, put-next lineFateAt (lineFateByte (c .before .before .before .before .args .t2)) _ _ _ _ (c .before .before .before .loop .inv .1) (c .fate-number .ensures))
+
+returns : tie.Need-returns Inv-loop μ-loop
+returns c = put-all _ _ _ 16 _ (c .before .loop .i) (c .before .loop .inv .0) (c .loop-test .left) (c .before .loop .inv .1)
+
+pub put-line-fates-spec : {M : Type 1} → statement M
+put-line-fates-spec =
+    tie.close
+    (tie.spec
+    Inv-loop
+    μ-loop
+    loop-holds
+    mul-entry
+    array-copy-out-entry
+    fate-number-requires
+    add-image
+    element-write-image
+    add-i
+    loop-less
+    loop-again
+    returns)

@@ -1,0 +1,65 @@
+// Which bytes are an image. No test ends its loop early: whole rows are compared at once then.
+ghost use mathlib.Core.Path.{_≡_};
+ghost use Prim.Native.Nat.{_+_, _<_};
+ghost use lib.Dec.{eqb, ltb};
+ghost use Rattle.plan.specs.Base.{allBelow};
+ghost use Rattle.image.specs.Layout.{shutAt, spareAt, byteAt, placeOk, isImage};
+
+// Are they bytes that a state is written with?
+pub fn is_image(image: &[u8; 384]) -> bool
+    ensures { λ r. ⌜ r ≡ isImage (now (image .entry)) ⌝ }
+{
+    (image[0] == 1) & are_places(image) & are_closings(image) & is_rest_spare(image)
+}
+
+// Does every place hold what a rule, two fates and a mark are written with?
+fn are_places(image: &[u8; 384]) -> bool
+    ensures { λ r. ⌜ r ≡ allBelow 16 (placeOk (now (image .entry))) ⌝ }
+{
+    let mut ok = true;
+    let mut i: usize = 0;
+    while i < 16 {
+        ok = is_place(image, i) & ok;
+        i += 1;
+    }
+    ok
+}
+
+fn is_place(image: &[u8; 384], i: usize) -> bool
+    requires { ⌜ i < 16 ⌝ }
+    ensures { λ r. ⌜ r ≡ placeOk (now (image .entry)) i ⌝ }
+{
+    let kind = image[36 + i];
+    (1 < kind)
+        & (kind < 5)
+        & ((kind == 4) | (image[84 + i] == 0))
+        & (image[100 + i] < 5)
+        & (image[116 + i] < 2)
+        & (image[156 + i] < 5)
+}
+
+// Are the marks of the steps marks?
+fn are_closings(image: &[u8; 384]) -> bool
+    ensures { λ r. ⌜ r ≡ allBelow 8 (λ k. ltb (byteAt (now (image .entry)) (shutAt + k)) 2) ⌝ }
+{
+    let mut ok = true;
+    let mut i: usize = 0;
+    while i < 8 {
+        ok = (image[132 + i] < 2) & ok;
+        i += 1;
+    }
+    ok
+}
+
+// Are the spare bytes zero?
+fn is_rest_spare(image: &[u8; 384]) -> bool
+    ensures { λ r. ⌜ r ≡ allBelow 212 (λ k. eqb (byteAt (now (image .entry)) (spareAt + k)) 0) ⌝ }
+{
+    let mut ok = true;
+    let mut i: usize = 0;
+    while i < 212 {
+        ok = (image[172 + i] == 0) & ok;
+        i += 1;
+    }
+    ok
+}

@@ -1,0 +1,2 @@
+-- The lemmas that the functions' proofs cite.
+pub mod KeptReports
