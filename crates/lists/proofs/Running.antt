@@ -2,7 +2,8 @@
 -- number 12, so only the rows after it turn a call down.
 use Prim.Native.Nat.{ℕ, _+_, _-_, _≤_, _<_}
 use native.Mathlib.Omega.{arith}
-use mathlib.Core.Bool.{Bool, true, false}
+use borrow.Author.Tests.{le-leb, lt-leb}
+use mathlib.Core.Bool.{Bool, true, false, not, _||_}
 use mathlib.Core.List.{List, []}
 use mathlib.Core.Path.{_≡_, refl, sym, _∙_, ap}
 use lib.ListN.{length, drop, length-drop}
@@ -10,25 +11,20 @@ use lib.Seq.{drop-drop}
 use Rattle.plan.specs.Base.{oneIf}
 use Rattle.plan.specs.Faults.{isTurnedDown}
 use Rattle.plan.specs.Calls.{callSize, firstCall, Decoded, andThen, decode}
-use Rattle.plan.proofs.Tests.{one-le}
+use Rattle.plan.specs.Fates.{isOpen}
+use Rattle.plan.specs.Plans.{eventCount, hasEvent}
+use Rattle.plan.proofs.Tests.{one-le, or-right-true}
 use Rattle.plan.proofs.CallDecoding.{size-some, listed-inside, bad-inside, decode-first, decode-none, decode-broken}
-use Rattle.scheduler.specs.State.{Sized}
+use Rattle.scheduler.specs.State.{fateOf, closedAt, Sized}
 use Rattle.scheduler.specs.Coherent.{coherent}
 use Rattle.scheduler.specs.Answers.{turnsDown, idle, accept, call}
 use Rattle.scheduler.specs.Lists.{scheduler, after, turnedDown}
 use Rattle.scheduler.specs.Runner.{ranOn}
 use Rattle.scheduler.proofs.Branches.{call-fault, call-accept}
-use Rattle.scheduler.proofs.CallSteps.{turned-down, not-turned-down, idle-same}
+use Rattle.scheduler.proofs.CallSteps.{turned-down, not-turned-down, idle-same, submit-turns, close-turns, submit-idle}
 use Rattle.theory.proofs.Coherence.{call-coherent, sized-call, call-taken, fault-answer}
-use Rattle.lists.specs.Types.{Call, CallRead, Listed, End, Bad, State, Admitted, Reply, Outcome}
-
--- the outcome of a list's calls from a state, with n calls turned down before them
-abbrev pub outcomeFrom : State → ℕ → Decoded → Outcome
-outcomeFrom s n d = record {
-  verdict = Admitted;
-  state = after scheduler s (d .calls);
-  refused = n + (turnedDown s (d .calls) + oneIf (d .cut));
-}
+use Rattle.lists.specs.Internal.Underway.{outcomeFrom, Underway}
+use Rattle.lists.specs.Types.{Call, Submit, Close, Finish, CallRead, Listed, End, Bad, State, Admitted, Reply, Outcome}
 
 -- what a list comes to that stops here
 abbrev pub outcomeOf : State → ℕ → Outcome
@@ -49,15 +45,6 @@ from-bad : (s : State) (n : ℕ) → outcomeOf s (n + 1) ≡ outcomeFrom s n (re
 unfolding after turnedDown
 from-bad s n = ap (outcomeOf s) (omega arith)
 
--- the loop, at a state and an offset, with n calls turned down: what is left comes to the whole run, no more calls are
--- counted than bytes are passed, and the state passes number 12
-pub record Underway (s : State) (b : List ℕ) (t : State) (at n : ℕ) : Type 0 where
-  pub inside : at ≤ length b
-  pub same : outcomeFrom t n (decode (drop at b)) ≡ ranOn s (decode b)
-  pub few : n ≤ at
-  pub passes : coherent t ≡ true
-  pub sized : Sized t
-
 pub begun : (s : State) (b : List ℕ) → coherent s ≡ true → Sized s → Underway s b s 0 0
 begun s b h z = record {
   inside = omega arith;
@@ -67,12 +54,22 @@ begun s b h z = record {
   sized = z;
 }
 
+-- a call's record ends within the bytes
+pub record-fits : (b : List ℕ) (at : ℕ)
+    → at ≤ length b
+    → (read : CallRead)
+    → read ≡ firstCall (drop at b)
+    → (c : Call)
+    → read ≡ Listed c
+    → at + callSize c ≤ length b
+record-fits b at le read is c h = omega (arith, listed-inside (drop at b) c (sym is ∙ h), length-drop at b)
+
 -- one record
 module _ {s t : State} {b : List ℕ} {at n : ℕ} (u : Underway s b t at n) (read : CallRead) (is : read ≡ firstCall (drop at b)) where
   -- a call
   module _ (c : Call) (h : read ≡ Listed c) (size : ℕ) (long : size ≡ callSize c) where
     pub inside-listed : at + size ≤ length b
-    inside-listed = omega (arith, long, u .inside, listed-inside (drop at b) c (sym is ∙ h), length-drop at b)
+    inside-listed = omega (arith, long, record-fits b at (u .inside) read is c h)
 
     pub less : length b - (at + size) < length b - at
     less = omega (arith, long, size-some c, inside-listed)
@@ -123,6 +120,45 @@ module _ {s t : State} {b : List ℕ} {at n : ℕ} (u : Underway s b t at n) (re
         → m ≡ n
         → Underway s b w (at + size) m
     again-idle w m d i e f = again-taken w m d (e ∙ sym (idle-same t c i)) f
+
+  -- a call that leaves the state as it is, by what the code reads of it
+  module _ (c : Call) (h : read ≡ Listed c) (m : ℕ) where
+    pub skip-unknown : (e : ℕ) → c ≡ Submit e → eventCount (t .plan) ≤ e → m ≡ n + 1 → Underway s b t (at + 2) m
+    skip-unknown e k ge f =
+        again-refused c h 2 (sym (ap callSize k)) t m (ap (turnsDown t) k ∙ sym (submit-turns t e) ∙ le-leb _ _ ge) refl f
+
+    pub skip-submitted : (e : ℕ) (o : Bool)
+        → c ≡ Submit e
+        → e < eventCount (t .plan)
+        → o ≡ isOpen (fateOf t e)
+        → o ≡ false
+        → m ≡ n
+        → Underway s b t (at + 2) m
+    skip-submitted e o k lt opened settled f =
+        again-idle c h 2 (sym (ap callSize k)) t m
+        (ap (turnsDown t) k ∙ sym (submit-turns t e) ∙ lt-leb _ _ lt)
+        (sym (submit-idle t c e o k opened) ∙ ap not settled)
+        refl f
+
+    pub skip-closed : (j : ℕ) → c ≡ Close j → closedAt t j ≡ true → m ≡ n + 1 → Underway s b t (at + 2) m
+    skip-closed j k shut f =
+        again-refused c h 2 (sym (ap callSize k)) t m
+        (ap (turnsDown t) k
+        ∙ sym (close-turns t j)
+        ∙ ap (λ (x : Bool). not (hasEvent (t .plan) j) || x) shut
+        ∙ or-right-true (not (hasEvent (t .plan) j)))
+        refl f
+
+    pub skip-unclosed : c ≡ Finish → turnsDown t Finish ≡ true → m ≡ n + 1 → Underway s b t (at + 1) m
+    skip-unclosed k down f = again-refused c h 1 (sym (ap callSize k)) t m (ap (turnsDown t) k ∙ down) refl f
+
+    pub skip-finished : c ≡ Finish
+        → turnsDown t Finish ≡ false
+        → idle t Finish ≡ true
+        → m ≡ n
+        → Underway s b t (at + 1) m
+    skip-finished k taken still f =
+        again-idle c h 1 (sym (ap callSize k)) t m (ap (turnsDown t) k ∙ taken) (ap (idle t) k ∙ still) refl f
 
   -- the end
   pub ended : read ≡ End → outcomeOf t n ≡ ranOn s (decode b)

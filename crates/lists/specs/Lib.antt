@@ -1,2 +1,3 @@
 -- The types' names; what `run` promises is defined in `scheduler`.
 pub mod Types
+pub mod Internal

@@ -1,5 +1,6 @@
 -- The types that `plan` and `scheduler` declare, under one name each.
 pub use Rattle.plan.specs.declared.calls.Call.{Call}
+pub use Rattle.plan.specs.declared.calls.Call.the-variants.{Submit, Close, Finish}
 pub use Rattle.plan.specs.declared.calls.CallRead.{CallRead}
 pub use Rattle.plan.specs.declared.calls.CallRead.the-variants.{Listed, End, Bad}
 pub use Rattle.plan.specs.declared.answer.SheetFault.{SheetFault}

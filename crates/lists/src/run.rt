@@ -1,13 +1,17 @@
 // A whole list: the sheet, then each call on the state that the one before gave.
 use plan::answer::Verdict;
+use plan::calls::Call;
 use plan::calls::CallRead;
 use plan::calls::call_at;
 use plan::calls::call_size;
+use plan::fate::is_open;
 use scheduler::reply::Outcome;
 use scheduler::state::State;
 use sheet::read::read_sheet;
 ghost use mathlib.Core.Bool.{true};
 ghost use mathlib.Core.Path.{_≡_};
+ghost use Prim.Native.Nat.{_≤_};
+ghost use lib.ListN.{length};
 ghost use Rattle.plan.specs.Calls.{decode};
 ghost use Rattle.scheduler.specs.declared.state.State.{State};
 ghost use Rattle.scheduler.specs.Coherent.{coherent};
@@ -15,6 +19,7 @@ ghost use Rattle.scheduler.specs.Sheet.{readSheet, admitted};
 ghost use Rattle.scheduler.specs.Lists.{scheduler};
 ghost use Rattle.scheduler.specs.Runner.{ranOn, runOf};
 ghost use Rattle.scheduler.specs.Demand.{Demand3, seen};
+ghost use Rattle.lists.specs.Internal.Underway.{Underway};
 
 // A cut record or another kind ends the list and counts as one call turned down; on a sheet turned down no call is
 // made. Demand 3 holds of every admitted sheet and every list.
@@ -46,15 +51,16 @@ fn take_calls(state: State, calls: &[u8]) -> Outcome
     let mut at: usize = 0;
     let mut refused: usize = 0;
     loop {
+        let skipped = skip_idle(next, calls, at, refused);
+        at = skipped.at;
+        refused = skipped.refused;
         let read = call_at(calls, at);
         match read {
             CallRead::Listed(made) => {
                 if next.turns_down(made) {
                     refused += 1;
                 } else {
-                    if !next.is_idle(made) {
-                        next = next.after_call(made);
-                    }
+                    next = next.after_call(made);
                 }
                 at += call_size(made);
             }
@@ -71,6 +77,75 @@ fn take_calls(state: State, calls: &[u8]) -> Outcome
                     state: next,
                     refused: refused + 1,
                 };
+            }
+        }
+    }
+}
+
+// Where a list goes on after calls that change nothing, and how many calls are turned down by then.
+struct Skipped {
+    pub at: usize,
+    pub refused: usize,
+}
+
+// Over the calls from an offset on that leave the state as it is, turned down or not, up to one that may change it, a bad
+// record or the end. Which events are open and which steps are closed is read once for all of them.
+fn skip_idle(state: State, calls: &[u8], from: usize, before: usize) -> Skipped
+    requires { ⌜ ((before ≤ from) × (from ≤ length (now calls))) ⌝ }
+    ensures ahead { λ r. ⌜ from ≤ r .at ⌝ }
+    ensures same { λ r. ⌜ ((s : State) → Underway s (now (calls .entry)) state from before → Underway s (now (calls .entry)) state (r .at) (r .refused)) ⌝ }
+{
+    let unclosed = state.turns_down(Call::Finish);
+    let plan = state.plan;
+    let standings = state.standings;
+    let closed = state.closed;
+    let mut at = from;
+    let mut refused = before;
+    loop {
+        let read = call_at(calls, at);
+        match read {
+            CallRead::Listed(made) => match made {
+                Call::Submit(event) => {
+                    if event < plan.event_count {
+                        if 16 <= event {
+                            return Skipped { at, refused };
+                        }
+                        let standing = standings[event as usize];
+                        let fate = standing.fate;
+                        if is_open(fate) {
+                            return Skipped { at, refused };
+                        }
+                    } else {
+                        refused += 1;
+                    }
+                    at += 2;
+                }
+                Call::Close(step) => {
+                    if 8 <= step {
+                        return Skipped { at, refused };
+                    }
+                    if !closed[step as usize] {
+                        return Skipped { at, refused };
+                    }
+                    refused += 1;
+                    at += 2;
+                }
+                Call::Finish => {
+                    if unclosed {
+                        refused += 1;
+                    } else {
+                        if !state.is_idle(Call::Finish) {
+                            return Skipped { at, refused };
+                        }
+                    }
+                    at += 1;
+                }
+            },
+            CallRead::End => {
+                return Skipped { at, refused };
+            }
+            CallRead::Bad => {
+                return Skipped { at, refused };
             }
         }
     }

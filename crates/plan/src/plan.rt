@@ -3,7 +3,8 @@ use super::event::Event;
 use super::rule::Rule;
 use super::rule::RuleLine;
 ghost use mathlib.Core.Path.{_≡_};
-ghost use Rattle.plan.specs.Plans.{emptyPlan, hasEvent};
+ghost use Rattle.plan.specs.Prelude.{Plan};
+ghost use Rattle.plan.specs.Plans.{emptyPlan, eventCount, hasEvent};
 
 // Events with their step and attributes, and rules. No call changes it.
 pub struct Plan {
@@ -32,14 +33,12 @@ pub fn empty_plan() -> Plan
     }
 }
 
-// Has the step an event? Past the places stand blanks, of step 0.
-pub fn has_event(plan: Plan, step: u8) -> bool
-    ensures { λ r. ⌜ r ≡ hasEvent plan step ⌝ }
+// Has the step an event among so many? Past the places stand blanks, of step 0.
+pub fn has_event(events: [Event; 16], count: u8, step: u8) -> bool
+    ensures { λ r. ⌜ ((p : Plan) → p .events ≡ events → eventCount p ≡ count → r ≡ hasEvent p step) ⌝ }
 {
-    let events = plan.events;
-    let n = plan.event_count;
     let mut e: u8 = 0;
-    while e < n {
+    while e < count {
         if e < 16 {
             let event = events[e as usize];
             if event.step == step {

@@ -56,11 +56,12 @@ impl State {
         ensures { λ r. ⌜ r ≡ call self (Close step) ⌝ }
     {
         let plan = self.plan;
+        let events = plan.events;
         let closed = self.closed;
         if !self.is_coherent() {
             return self.turn_down(CallFault::Incoherent);
         }
-        if !has_event(plan, step) {
+        if !has_event(events, plan.event_count, step) {
             return self.turn_down(CallFault::Unknown);
         }
         if step < 8 {
@@ -106,15 +107,19 @@ impl State {
     pub fn turns_down(self, made: Call) -> bool
         ensures { λ r. ⌜ r ≡ turnsDown self made ⌝ }
     {
-        let plan = self.plan;
-        let closed = self.closed;
         match made {
-            Call::Submit(event) => plan.event_count <= event,
+            Call::Submit(event) => {
+                let plan = self.plan;
+                plan.event_count <= event
+            }
             Call::Close(step) => {
+                let plan = self.plan;
+                let events = plan.events;
+                let closed = self.closed;
                 if step < 8 {
-                    return !has_event(plan, step) | closed[step as usize];
+                    return !has_event(events, plan.event_count, step) | closed[step as usize];
                 }
-                !has_event(plan, step)
+                !has_event(events, plan.event_count, step)
             }
             Call::Finish => self.has_unclosed(),
         }
@@ -124,9 +129,9 @@ impl State {
     pub fn is_idle(self, made: Call) -> bool
         ensures { λ r. ⌜ r ≡ idle self made ⌝ }
     {
-        let standings = self.standings;
         match made {
             Call::Submit(event) => {
+                let standings = self.standings;
                 if event < 16 {
                     let standing = standings[event as usize];
                     let fate = standing.fate;
@@ -194,7 +199,8 @@ impl State {
         let events = plan.events;
         let found = self.find_order(event);
         if found.ok {
-            return self.do_order(found);
+            let order = found.events;
+            return self.do_events(order, found.len);
         }
         let mut attributes: u8 = 0;
         if event < 16 {

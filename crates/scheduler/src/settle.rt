@@ -11,10 +11,9 @@ use members::set::without;
 use members::view::View;
 use plan::fate::Fate;
 ghost use mathlib.Core.Path.{_≡_};
-ghost use lib.ListN.{take};
 ghost use Rattle.members.specs.Sets.{orSixteen, Shows};
 ghost use Rattle.scheduler.specs.State.{fateOf};
-ghost use Rattle.scheduler.specs.Orders.{doAll, foundOrder};
+ghost use Rattle.scheduler.specs.Orders.{foundOrder};
 ghost use Rattle.scheduler.specs.Calls.{toRefuse, toDo, settle};
 
 // Whether there was a turn to make, and the state after it.
@@ -44,29 +43,14 @@ impl State {
                 if !found.ok {
                     return next;
                 }
-                next = next.do_order(found);
+                let events = found.events;
+                next = next.do_events(events, found.len);
             }
             view = next.view();
             if lowest_of(view.held) == 16 {
                 return next;
             }
             left -= 1;
-        }
-        next
-    }
-
-    // The events of an order done, one after the other.
-    pub(crate) fn do_order(self, found: Found) -> State
-        ensures { λ r. ⌜ r ≡ doAll self (take (found .len) (found .events)) ⌝ }
-    {
-        let events = found.events;
-        let len = found.len;
-        let n = if len < 6 { len } else { 6 };
-        let mut next = self;
-        let mut i: u8 = 0;
-        while i < n {
-            next = next.do_one(events[i as usize]);
-            i += 1;
         }
         next
     }

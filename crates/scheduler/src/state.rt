@@ -4,7 +4,9 @@ use plan::fate::Standing;
 use plan::history::Entry;
 use plan::plan::Plan;
 ghost use mathlib.Core.Path.{_≡_};
+ghost use lib.ListN.{take};
 ghost use Rattle.scheduler.specs.State.{hold, settleAs, shut, breakRule};
+ghost use Rattle.scheduler.specs.Orders.{doAll};
 
 // A plan and what has happened (5.4).
 pub struct State {
@@ -48,6 +50,31 @@ impl State {
             next.history[len as usize] = Entry { event, fate };
             next.history_len = len + 1;
             return next;
+        }
+        next
+    }
+
+    // The events of an order done one after the other, at most six: each is settled as done, in place.
+    pub(crate) fn do_events(self, events: [u8; 6], len: u8) -> State
+        ensures { λ r. ⌜ r ≡ doAll self (take len events) ⌝ }
+    {
+        let n = if len < 6 { len } else { 6 };
+        let mut next = self;
+        let mut i: u8 = 0;
+        while i < n {
+            let event = events[i as usize];
+            let lines = next.history_len;
+            if event < 16 {
+                next.standings[event as usize] = Standing { fate: Fate::Done };
+            }
+            if lines < 16 {
+                next.history[lines as usize] = Entry {
+                    event,
+                    fate: Fate::Done,
+                };
+                next.history_len = lines + 1;
+            }
+            i += 1;
         }
         next
     }

@@ -4,20 +4,20 @@ use native.Mathlib.Omega.{arith}
 use borrow.Author.Needs.{needs}
 use mathlib.Core.Bool.{false}
 use mathlib.Core.Logic.{inl, inr}
-use mathlib.Core.Path.{_≡_, refl, sym}
+use mathlib.Core.Path.{_≡_, sym}
 use Rattle.plan.specs.Base.{anyBelow}
-use Rattle.plan.specs.Plans.{blankEvent, hasEvent}
+use Rattle.plan.specs.Plans.{blankEvent}
 use Rattle.plan.proofs.Arrays.{read-in, read-past}
-use Rattle.plan.proofs.Loops.{none-zero, none-next, some-hit, none-all}
-use Rattle.plan.proofs.Steps.{stepIn, step-hit, step-miss}
+use Rattle.plan.proofs.Loops.{none-zero, none-next}
+use Rattle.plan.proofs.Steps.{stepIn, step-hit, step-miss, has-some, has-none}
 use Rattle.plan.proofs.plan.has_event.Statement.{statement}
 use Rattle.plan.proofs.plan.has_event.Tie as tie
 
 abbrev Inv-loop : tie.InvT-loop
-Inv-loop step events n e₀ e = (e ≤ n) × (anyBelow e (stepIn events step) ≡ false)
+Inv-loop count step events e₀ e = (e ≤ count) × (anyBelow e (stepIn events step) ≡ false)
 
 abbrev μ-loop : tie.MeasureT-loop
-μ-loop step events n e₀ e = n - e
+μ-loop count step events e₀ e = count - e
 
 loop-holds : tie.Need-loop-holds Inv-loop μ-loop
 loop-holds c = (omega arith, none-zero _)
@@ -32,22 +32,20 @@ array-copy-out-event : tie.Need-array-copy-out-event Inv-loop μ-loop
 array-copy-out-event c = search needs
 
 returns : tie.Need-returns Inv-loop μ-loop
-unfolding hasEvent
-returns c =
+returns c = λ p same many.
     let test = c .before .before .before .before in
     let at = test .before .loop in
-    let a = test .before .before .before .args in
-    let read = read-in 16 (a .plan .events) (at .e) blankEvent (c .before .before .before .if1 .taken) in
-    some-hit _ (stepIn (a .plan .events) (a .step)) _ (λ _. refl) (at .e) (test .loop-test .taken) (step-hit (a .plan .events) (a .step) (at .e) _ (sym read) (c .if2 .taken))
+    let a = test .before .before .args in
+    let read = read-in 16 (a .t1) (at .e) blankEvent (c .before .before .before .if1 .taken) in
+    has-some (a .t1) (a .count) (a .step) (at .e) p same many (test .loop-test .taken) (step-hit (a .t1) (a .step) (at .e) _ (sym read) (c .if2 .taken))
 
 returns-2 : tie.Need-returns-2 Inv-loop μ-loop
-unfolding hasEvent
-returns-2 c =
+returns-2 c = λ p same many.
     let test = c .before .before in
     let at = test .before .loop in
-    let a = test .before .before .before .args in
-    let read = read-past 16 (a .plan .events) (at .e) blankEvent (c .before .if1 .left) in
-    some-hit _ (stepIn (a .plan .events) (a .step)) _ (λ _. refl) (at .e) (test .loop-test .taken) (step-hit (a .plan .events) (a .step) (at .e) _ (sym read) (sym (c .if3 .taken)))
+    let a = test .before .before .args in
+    let read = read-past 16 (a .t1) (at .e) blankEvent (c .before .if1 .left) in
+    has-some (a .t1) (a .count) (a .step) (at .e) p same many (test .loop-test .taken) (step-hit (a .t1) (a .step) (at .e) _ (sym read) (sym (c .if3 .taken)))
 
 add-e : tie.Need-add-e Inv-loop μ-loop
 add-e c = omega arith
@@ -59,17 +57,19 @@ loop-again : tie.Need-loop-again Inv-loop μ-loop
 loop-again c =
     let test = c .before in
     let at = test .before .loop in
-    let a = test .before .before .before .args in (
+    let a = test .before .before .args in (
       omega arith,
       none-next _ _ (at .inv .1) (elim (c .if1 .came) [
-        | inl w ↦ step-miss (a .plan .events) (a .step) (at .e) _ (sym (read-in 16 (a .plan .events) (at .e) blankEvent (w .0 .taken))) (w .3 .left)
-        | inr w ↦ step-miss (a .plan .events) (a .step) (at .e) _ (sym (read-past 16 (a .plan .events) (at .e) blankEvent (w .0 .left))) (λ same. w .1 .left (sym same))
+        | inl w ↦ step-miss (a .t1) (a .step) (at .e) _ (sym (read-in 16 (a .t1) (at .e) blankEvent (w .0 .taken))) (w .3 .left)
+        | inr w ↦ step-miss (a .t1) (a .step) (at .e) _ (sym (read-past 16 (a .t1) (at .e) blankEvent (w .0 .left))) (λ same. w .1 .left (sym same))
       ]),
     )
 
 returns-3 : tie.Need-returns-3 Inv-loop μ-loop
-unfolding hasEvent
-returns-3 c = none-all _ _ _ (λ _. refl) _ (c .before .loop .inv .0) (c .loop-test .left) (c .before .loop .inv .1)
+returns-3 c = λ p same many.
+    let at = c .before .loop in
+    let a = c .before .before .args in
+    has-none (a .t1) (a .count) (a .step) (at .e) p same many (at .inv .0) (c .loop-test .left) (at .inv .1)
 
 pub has-event-spec : {M : Type 1} → statement M
 has-event-spec =

@@ -2,7 +2,7 @@
 use borrow.Author.Needs.{needs}
 use mathlib.Core.Bool.{false}
 use mathlib.Core.Logic.{inl, inr}
-use mathlib.Core.Path.{_≡_, sym, _∙_}
+use mathlib.Core.Path.{_≡_, refl, sym, _∙_}
 use Rattle.scheduler.specs.Prelude.{Close, Unknown, AlreadyClosed}
 use Rattle.plan.proofs.Arrays.{read-in, read-past}
 use Rattle.scheduler.specs.State.{closedAt}
@@ -29,10 +29,10 @@ turn-down-requires-2 c κs = search needs
 
 returns-2 : tie.Need-returns-2
 returns-2 c =
-    let a = c .before .before .before .before .before .before .before .args in
+    let a = c .before .before .before .before .before .before .before .before .args in
     let hangs = says-yes _ _ (c .before .before .before .before .is-coherent .ensures) (c .before .before .before .if1 .left) in
     c .turn-down2 .ensures
-    ∙ call-refused (a .self) (Close (a .step)) hangs Unknown (close-unknown (a .self) (a .step) (says-no _ _ (c .before .before .has-event .ensures) (c .before .if2 .taken)))
+    ∙ call-refused (a .self) (Close (a .step)) hangs Unknown (close-unknown (a .self) (a .step) (says-no _ _ (c .before .before .has-event .ensures (a .self .plan) refl refl) (c .before .if2 .taken)))
 
 array-read-if4 : tie.Need-array-read-if4
 array-read-if4 c = search needs
@@ -43,9 +43,9 @@ turn-down-requires-3 c κs = search needs
 returns-3 : tie.Need-returns-3
 returns-3 c =
     let test = c .before .before .before in
-    let a = test .before .before .before .before .before .before .args in
+    let a = test .before .before .before .before .before .before .before .args in
     let hangs = says-yes _ _ (test .before .before .before .is-coherent .ensures) (test .before .before .if1 .left) in
-    let known = says-yes _ _ (test .before .has-event .ensures) (test .if2 .left) in
+    let known = says-yes _ _ (test .before .has-event .ensures (a .self .plan) refl refl) (test .if2 .left) in
     c .turn-down3 .ensures
     ∙ call-refused (a .self) (Close (a .step)) hangs AlreadyClosed (close-again (a .self) (a .step) known (read-in 8 (a .self .closed) (a .step) false (c .before .before .if3 .taken) ∙ c .before .if4 .taken))
 
@@ -55,8 +55,8 @@ after-close-requires c κs = search needs
 returns-4 : tie.Need-returns-4
 returns-4 c =
     let test = c .before .before in
-    let a = test .before .before .before .before .before .before .args in
-    let known = says-yes _ _ (test .before .has-event .ensures) (test .if2 .left) in
+    let a = test .before .before .before .before .before .before .before .args in
+    let known = says-yes _ _ (test .before .has-event .ensures (a .self .plan) refl refl) (test .if2 .left) in
     let unclosed : closedAt (a .self) (a .step) ≡ false = elim (c .before .if3 .came) [
       | inl w ↦ read-in 8 (a .self .closed) (a .step) false (w .0 .taken) ∙ w .1 .left
       | inr w ↦ read-past 8 (a .self .closed) (a .step) false (w .left)

@@ -10,11 +10,11 @@ use Rattle.scheduler.proofs.state.State.decide.Tie as tie
 find-order-requires : tie.Need-find-order-requires
 find-order-requires c κs = search needs
 
-do-order-requires : tie.Need-do-order-requires
-do-order-requires c κs = search needs
+do-events-requires : tie.Need-do-events-requires
+do-events-requires c κs = search needs
 
 returns : tie.Need-returns
-returns c = decide-found _ _ _ (c .before .before .find-order .ensures) _ (c .before .if1 .taken) (c .do-order .ensures)
+returns c = decide-found _ _ _ (c .before .before .before .find-order .ensures) _ (c .before .before .if1 .taken) (c .do-events .ensures)
 
 mul-declared : tie.Need-mul-declared
 mul-declared c = search needs
@@ -64,7 +64,7 @@ decide-spec =
     tie.close
     (tie.spec
     find-order-requires
-    do-order-requires
+    do-events-requires
     returns
     mul-declared
     array-copy-out-declared

@@ -19,8 +19,8 @@ is-open-requires c κs = search needs
 
 returns : tie.Need-returns
 returns c =
-    let told = c .before .before .before in
-    let s = told .before .before .before .before .args .self in
+    let told = c .before .before .before .before in
+    let s = told .before .before .before .args .self in
     submit-idle s _ _ _ (told .before .made .given .1) (fate-in s _ _ (c .before .before .if1 .taken) (c .is-open .ensures))
 
 enum-known-made-2 : tie.Need-enum-known-made-2
@@ -34,8 +34,8 @@ has-held-requires c κs = search needs
 
 returns-2 : tie.Need-returns-2
 returns-2 c =
-    let told = c .before in
-    let s = told .before .before .before .before .args .self in
+    let told = c .before .before in
+    let s = told .before .before .before .args .self in
     submit-idle s _ _ true (told .before .made .given .1) (fate-blank s _ (c .if1 .left))
 
 returns-3 : tie.Need-returns-3

@@ -55,8 +55,8 @@ returns-2 c =
     let rests = turn-rests s e same (λ lt. omega (arith, c .before .before .before .if2 .left)) (found .result) (found .ensures) (not-true _ (c .if3 .taken)) in
     sym (at .inv .0 ∙ up-rest s (at .left) rests)
 
-do-order-requires : tie.Need-do-order-requires Inv-loop μ-loop
-do-order-requires c κs = tt
+do-events-requires : tie.Need-do-events-requires Inv-loop μ-loop
+do-events-requires c κs = tt
 
 view-requires-2 : tie.Need-view-requires-2 Inv-loop μ-loop
 view-requires-2 c κs = tt
@@ -74,7 +74,7 @@ turned c =
     (λ w. turn-refuses s e same (w .0 .taken) ∙ ap {B = Option State} some (sym (w .2 ∙ w .1 .ensures)))
     (λ w.
     turn-does s e same (λ lt. omega (arith, w .0 .left)) (w .1 .result) (w .1 .ensures) (not-false _ (w .3 .left))
-    ∙ ap {B = Option State} some (sym (w .5 ∙ w .4 .ensures)))
+    ∙ ap {B = Option State} some (sym (w .6 ∙ w .5 .ensures)))
     (c .if2 .came)
 
 returns-3 : tie.Need-returns-3 Inv-loop μ-loop
@@ -116,7 +116,7 @@ settle-spec =
     settle-as-requires
     find-held-requires
     returns-2
-    do-order-requires
+    do-events-requires
     view-requires-2
     lowest-of-requires-2
     returns-3

@@ -1,10 +1,10 @@
 -- `State::turns_down` meets its contract.
-use borrow.Author.Needs.{needs}
 use mathlib.Core.Bool.{Bool, false, not, _||_, or-false}
-use mathlib.Core.Path.{sym, _∙_, ap, ap₂}
+use mathlib.Core.Path.{refl, sym, _∙_, ap, ap₂}
 use Rattle.plan.proofs.Arrays.{read-in, read-past}
 use Rattle.scheduler.specs.Answers.{turnsDown}
 use Rattle.scheduler.proofs.CallSteps.{submit-turns, close-turns, finish-turns}
+use borrow.Author.Needs.{needs}
 use Rattle.scheduler.proofs.state.State.turns_down.Statement.{statement}
 use Rattle.scheduler.proofs.state.State.turns_down.Tie as tie
 
@@ -25,9 +25,9 @@ array-read-result c = search needs
 
 returns : tie.Need-returns
 returns c =
-    let told = c .before .before in
-    let s = told .before .before .before .before .before .args .self in
-    ap₂ (λ (a b : Bool). not a || b) (c .has-event .ensures) (sym (read-in 8 (s .closed) _ false (c .before .if1 .taken)))
+    let told = c .before .before .before .before .before in
+    let s = told .before .before .before .args .self in
+    ap₂ (λ (a b : Bool). not a || b) (c .has-event .ensures (s .plan) refl refl) (sym (read-in 8 (s .closed) _ false (c .before .if1 .taken)))
     ∙ close-turns s _
     ∙ ap (turnsDown s) (sym (told .before .made2 .given .1))
 
@@ -41,14 +41,14 @@ has-unclosed-requires : tie.Need-has-unclosed-requires
 has-unclosed-requires c κs = search needs
 
 returns-2 : tie.Need-returns-2
-returns-2 c = submit-turns _ _ ∙ ap (turnsDown _) (sym (c .before .before .made .given .1))
+returns-2 c = submit-turns _ _ ∙ ap (turnsDown _) (sym (c .before .before .before .made .given .1))
 
 returns-3 : tie.Need-returns-3
 returns-3 c =
-    let told = c .before .before in
-    let s = told .before .before .before .before .before .args .self in
+    let told = c .before .before .before .before .before in
+    let s = told .before .before .before .args .self in
     sym (or-false (not (c .has-event2 .result)))
-    ∙ ap₂ (λ (a b : Bool). not a || b) (c .has-event2 .ensures) (sym (read-past 8 (s .closed) _ false (c .before .if1 .left)))
+    ∙ ap₂ (λ (a b : Bool). not a || b) (c .has-event2 .ensures (s .plan) refl refl) (sym (read-past 8 (s .closed) _ false (c .before .if1 .left)))
     ∙ close-turns s _
     ∙ ap (turnsDown s) (sym (told .before .made2 .given .1))
 

@@ -1,0 +1,30 @@
+-- A list under way: what the calls that are left come to.
+use Prim.Native.Nat.{ℕ, _+_, _≤_}
+use mathlib.Core.Bool.{true}
+use mathlib.Core.List.{List}
+use mathlib.Core.Path.{_≡_}
+use lib.ListN.{length, drop}
+use Rattle.plan.specs.Base.{oneIf}
+use Rattle.plan.specs.Calls.{Decoded, decode}
+use Rattle.scheduler.specs.State.{Sized}
+use Rattle.scheduler.specs.Coherent.{coherent}
+use Rattle.scheduler.specs.Lists.{scheduler, after, turnedDown}
+use Rattle.scheduler.specs.Runner.{ranOn}
+use Rattle.lists.specs.Types.{State, Admitted, Outcome}
+
+-- the outcome of a list's calls from a state, with n calls turned down before them
+abbrev pub outcomeFrom : State → ℕ → Decoded → Outcome
+outcomeFrom s n d = record {
+  verdict = Admitted;
+  state = after scheduler s (d .calls);
+  refused = n + (turnedDown s (d .calls) + oneIf (d .cut));
+}
+
+-- the loop, at a state and an offset, with n calls turned down: what is left comes to the whole run, no more calls are
+-- counted than bytes are passed, and the state passes number 12
+pub record Underway (s : State) (b : List ℕ) (t : State) (at n : ℕ) : Type 0 where
+  pub inside : at ≤ length b
+  pub same : outcomeFrom t n (decode (drop at b)) ≡ ranOn s (decode b)
+  pub few : n ≤ at
+  pub passes : coherent t ≡ true
+  pub sized : Sized t
