@@ -5,6 +5,8 @@
 pub mod bench;
 pub mod cases;
 pub mod compare;
-pub mod library;
 pub mod peer;
 pub mod random;
+
+/// The proved library, through its bindings.
+pub use sinewhopa as library;
