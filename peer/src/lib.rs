@@ -5,6 +5,7 @@
 pub mod bench;
 pub mod cases;
 pub mod compare;
+pub mod images;
 pub mod peer;
 pub mod random;
 
