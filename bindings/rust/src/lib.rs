@@ -24,10 +24,12 @@
 //! calls; states may be used from any thread.
 
 #![warn(missing_docs)]
+#![deny(unsafe_code)]
 
 mod fate;
 mod faults;
 mod layout;
+#[allow(unsafe_code)]
 pub mod raw;
 mod state;
 

@@ -10,10 +10,21 @@
 //!
 //! let mut state = [0; sinewhopa::STATE_LEN];
 //! assert_eq!(raw::submit(&mut state, 0), 12); // no state yet
+//! assert_eq!(raw::open(&mut state, &[1, 0]), (1, 0)); // a sheet that is cut
 //! assert_eq!(raw::open(&mut state, &[1, 0, 6, 5]), (0, 0));
 //! assert_eq!(raw::submit(&mut state, 1), 9); // no such event
 //! assert_eq!(raw::submit(&mut state, 0), 0);
+//! assert_eq!(raw::finish(&mut state), 11); // the step is not closed yet
+//! assert_eq!(raw::close_step(&mut state, 0), 0);
+//! assert_eq!(raw::close_step(&mut state, 0), 10); // it is closed already
+//! assert_eq!(raw::finish(&mut state), 0);
 //! assert_eq!(raw::check(&state), 0);
+//!
+//! let (mut one, mut other) = ([0; 100], [0; 100]);
+//! let length = raw::report(&state, 3, &mut one);
+//! let calls = [16, 1, 16, 0, 18, 17, 0, 17, 0, 18];
+//! assert_eq!(raw::run(&[1, 0, 6, 5], &calls, &mut other), length);
+//! assert_eq!(one, other);
 //! ```
 
 use crate::STATE_LEN;
