@@ -139,18 +139,27 @@ impl<'a, W: Write> Host<'a, W> {
         self.store(name, &self.plans[name].state)
     }
 
-    /// Winds up every plan, once all its steps are closed.
+    /// Closes what is left to close of every plan and winds it up.
     fn wind_up(&mut self) -> Result<()> {
         let names: Vec<String> = self.plans.keys().cloned().collect();
-        for name in names {
-            let plan = self.plans.get_mut(&name).ok_or("no such plan")?;
+        for name in &names {
             for step in 0..8 {
-                // Most are closed already, and some have no event.
-                let _ = plan.state.close_step(step);
+                self.close_rest(name, step)?;
             }
+            let plan = self.plans.get_mut(name).ok_or("no such plan")?;
             plan.state.finish()?;
             write!(self.out, "{name}, wound up")?;
-            self.tell(&name)?;
+            self.tell(name)?;
+        }
+        Ok(())
+    }
+
+    /// Closes the step, if it has an event and is not closed yet.
+    fn close_rest(&mut self, name: &str, step: u8) -> Result<()> {
+        let plan = self.plans.get_mut(name).ok_or("no such plan")?;
+        if plan.state.close_step(step).is_ok() {
+            write!(self.out, "{name}, step {step}: closed")?;
+            self.tell(name)?;
         }
         Ok(())
     }
