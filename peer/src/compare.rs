@@ -187,13 +187,18 @@ impl Tally {
 
     /// The first thing that was met fewer than `least` times.
     pub fn missing(&self, least: usize) -> Option<String> {
-        let few = self.counts().into_iter().find(|(_, met)| *met < least);
-        few.map(|(name, met)| format!("{name}: {met}, fewer than {least}"))
+        missing(self.counts(), least)
     }
 }
 
+/// The first of the counts that is below `least`.
+pub fn missing(counts: Vec<(String, usize)>, least: usize) -> Option<String> {
+    let few = counts.into_iter().find(|(_, met)| *met < least);
+    few.map(|(name, met)| format!("{name}: {met}, fewer than {least}"))
+}
+
 /// The counts of a list from the place `from` on, each with its place as name.
-fn numbered(name: &str, list: &[usize], from: usize) -> Vec<(String, usize)> {
+pub fn numbered(name: &str, list: &[usize], from: usize) -> Vec<(String, usize)> {
     let list = list.iter().enumerate().skip(from);
     let named = list.map(|(number, met)| (format!("{name} {number}"), *met));
     named.collect()
@@ -224,7 +229,7 @@ impl fmt::Debug for Difference {
     }
 }
 
-fn hex(bytes: &[u8]) -> String {
+pub fn hex(bytes: &[u8]) -> String {
     let words: Vec<String> = bytes.iter().map(|byte| format!("{byte:02x}")).collect();
     words.join(" ")
 }

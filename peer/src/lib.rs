@@ -5,6 +5,9 @@
 pub mod bench;
 pub mod cases;
 pub mod compare;
-pub mod library;
+pub mod images;
 pub mod peer;
 pub mod random;
+
+/// The proved library, through its bindings.
+pub use sinewhopa as library;

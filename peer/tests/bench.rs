@@ -1,10 +1,12 @@
 //! The benchmark's workloads are what their names say, and a library that
 //! differs is found out before anything is timed.
 
-use peer::bench::single::{self, Kept, Single};
+use peer::bench::kept::Kept;
+use peer::bench::single::{self, Single};
 use peer::bench::table::Row;
 use peer::bench::timing::{measure, Work};
 use peer::bench::workloads::{self, Workload};
+use peer::library::State;
 use peer::peer::calls::Call;
 use peer::peer::{trace, Run, Scheduler};
 use peer::{library, peer as second};
@@ -128,19 +130,27 @@ fn single_calls_are_made_on_full_states() {
     }
 }
 
-/// A state whose winding up leaves everything as it is.
+/// A state that answers calls of a kind without doing anything.
 #[derive(Clone)]
-struct Idle(Scheduler);
+struct Ignores<const KIND: u8>(Scheduler);
 
-impl Kept for Idle {
-    fn open(sheet: &[u8]) -> Idle {
-        Idle(Scheduler::open(sheet))
+const CLOSINGS: u8 = 17;
+const WINDINGS_UP: u8 = 18;
+
+impl<const KIND: u8> Kept for Ignores<KIND> {
+    fn open(sheet: &[u8]) -> Ignores<KIND> {
+        Ignores(Scheduler::open(sheet))
     }
 
     fn call(&mut self, call: Call) -> u8 {
         let mut state = self.0.clone();
         let number = state.call(call);
-        if call != Call::Finish {
+        let ignored = match call {
+            Call::Submit(_) => false,
+            Call::CloseStep(_) => KIND == CLOSINGS,
+            Call::Finish => KIND == WINDINGS_UP,
+        };
+        if !ignored {
             self.0 = state;
         }
         number
@@ -149,7 +159,13 @@ impl Kept for Idle {
     fn report(&self) -> Vec<u8> {
         Kept::report(&self.0)
     }
+
+    fn is(&self, other: &Ignores<KIND>) -> bool {
+        self.0.is(&other.0)
+    }
 }
+
+type Idle = Ignores<WINDINGS_UP>;
 
 /// Only the winding up that has something to do tells.
 #[test]
@@ -157,9 +173,40 @@ fn a_wrong_state_is_found() {
     let differs = |single: &Single| single.outcome::<Idle>() != single.outcome::<Scheduler>();
     let found: Vec<Single> = single::list().into_iter().filter(differs).collect();
     let names: Vec<&str> = found.iter().map(|single| single.name).collect();
-    assert_eq!(names, ["a winding up of sixteen held events"]);
+    assert_eq!(names, ["a winding up of sixteen held events (on a copy)"]);
     assert!(found[0].work::<Idle>().is_err());
     assert!(found[0].work::<Scheduler>().is_ok());
+}
+
+/// Names tell which calls are made on copies, since they change the state.
+#[test]
+fn library_agrees_on_every_single_call() {
+    for single in single::list() {
+        assert!(single.work::<State>().is_ok(), "{}", single.name);
+        let copied = single.name.ends_with("(on a copy)");
+        assert_eq!(single.is_idle::<State>(), !copied, "{}", single.name);
+    }
+}
+
+/// Those of random sheets and the long one. A state that ignores closings is found
+/// out in each.
+#[test]
+fn library_agrees_on_lists_made_one_by_one() {
+    let lists = workloads::list();
+    let kept = workloads::one_by_one(&lists);
+    for (list, place) in kept.iter().zip(workloads::KEPT) {
+        assert_eq!(list.pairs, lists[place].pairs);
+        assert_eq!(list.name, format!("{}, one by one", lists[place].name));
+        assert!(list.kept_work::<State>().is_ok(), "{}", list.name);
+        let wrong = list.kept_work::<Ignores<CLOSINGS>>();
+        assert!(wrong.is_err(), "{}", list.name);
+    }
+    assert!(kept[2].name.starts_with("large random sheets"));
+    assert_eq!(
+        kept[3].name,
+        "a long list: 32,768 calls of all sorts, one by one"
+    );
+    assert_eq!(kept[3].calls(), 32_768);
 }
 
 fn spin(count: u32) {
@@ -192,6 +239,8 @@ fn dearer_work_takes_longer() {
 fn rows_are_markdown() {
     let row = |times| Row::new("a", 10, times).to_string();
     assert_eq!(row([160.4, 91.0]), "| a | 16.0 ns | 9.10 ns | 1.8 |");
+    let rates = Row::new("a", 10, [160.4, 10_000.0]).rates();
+    assert_eq!(rates, "| a | 62.3 | 1.00 |");
     assert_eq!(row([9_994.0, 9_996.0]), "| a | 999 ns | 1.00 µs | 1.0 |");
     assert_eq!(
         row([4_512.0, 131_234.0]),

@@ -1,10 +1,12 @@
 //! The benchmark: the library and the peer on the same work, in one run.
 //!
 //! `workloads` has sheets with lists of calls, `single` has states with one
-//! call to make on each, `bytes` writes both; `timing` finds the least times and
-//! `table` prints them. Outputs are compared before anything is timed.
+//! call to make on each, `bytes` writes both; `kept` has the states of the two that
+//! single calls are made on; `timing` finds the least times and `table` prints them.
+//! Outputs are compared before anything is timed.
 
 mod bytes;
+pub mod kept;
 pub mod single;
 pub mod table;
 pub mod timing;

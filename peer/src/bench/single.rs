@@ -2,48 +2,19 @@
 //! it can be: 16 events, 16 rules, and a full history or sixteen events held (in
 //! the last, 15 rules and fifteen held).
 //!
-//! Nothing here is in the table yet, as the library keeps no state so far. Once
-//! its C interface has calls on the image of a state: implement `Kept` for the
-//! image in `library.rs`, as is done for the peer's scheduler below, and let
-//! `bin/bench.rs` add `single.work::<Image>()?` to its work for each of `list()`.
+//! The library tests number 12 in each call, as any bytes could be given to it; the
+//! peer never does.
 
 use super::bytes::{all_held, all_settled, closings, hand_ins, star, Pair};
+use super::kept::{make_all, Kept};
 use super::timing::Work;
-use crate::peer::calls::{apply, split_call, Answer, Call, Run};
-use crate::peer::report::report;
-use crate::peer::{Scheduler, Sheet};
+use crate::peer::calls::Call;
+use crate::peer::Scheduler;
+use std::cell::RefCell;
 use std::hint::black_box;
 
 /// The calls of a pass.
 const PASS: usize = 100;
-
-/// A state that its owner keeps between calls.
-pub trait Kept: Clone {
-    /// The first state of an admitted sheet.
-    fn open(sheet: &[u8]) -> Self;
-    /// Makes the call. Gives 0, or the number of the reason to turn it down.
-    fn call(&mut self, call: Call) -> u8;
-    /// The state's report, with no call turned down.
-    fn report(&self) -> Vec<u8>;
-}
-
-impl Kept for Scheduler {
-    fn open(sheet: &[u8]) -> Scheduler {
-        Scheduler::new(Sheet::read(sheet).expect("an admitted sheet"))
-    }
-
-    fn call(&mut self, call: Call) -> u8 {
-        match apply(self, call) {
-            Answer::TurnedDown(reason) => reason as u8,
-            _ => 0,
-        }
-    }
-
-    fn report(&self) -> Vec<u8> {
-        let (scheduler, answers) = (self.clone(), Vec::new());
-        report(&Ok(Run { scheduler, answers })).into_bytes()
-    }
-}
 
 /// A call and the state to make it on, as a sheet and the calls before.
 pub struct Single {
@@ -66,7 +37,11 @@ fn on_settled() -> [Single; 5] {
             &settled,
             Call::Submit(255),
         ),
-        single("a closing, all settled", &settled, Call::CloseStep(3)),
+        single(
+            "a closing, all settled (on a copy)",
+            &settled,
+            Call::CloseStep(3),
+        ),
         single("a closing of a closed step", &closed, Call::CloseStep(3)),
         single(
             "a winding up, all settled and closed",
@@ -83,10 +58,18 @@ fn on_held() -> [Single; 5] {
     [
         single("a winding up, steps not closed yet", &held, Call::Finish),
         single("a hand-in of a held event", &held, Call::Submit(5)),
-        single("a closing, sixteen held", &held, Call::CloseStep(3)),
-        single("a winding up of sixteen held events", &closed, Call::Finish),
         single(
-            "a hand-in that fifteen wait for",
+            "a closing, sixteen held (on a copy)",
+            &held,
+            Call::CloseStep(3),
+        ),
+        single(
+            "a winding up of sixteen held events (on a copy)",
+            &closed,
+            Call::Finish,
+        ),
+        single(
+            "a hand-in that fifteen wait for (on a copy)",
             &waiting,
             Call::Submit(15),
         ),
@@ -108,11 +91,7 @@ impl Single {
     pub fn state<S: Kept>(&self) -> S {
         let (sheet, calls) = &self.before;
         let mut state = S::open(sheet);
-        let mut rest = calls.as_slice();
-        while let Some((call, after)) = split_call(rest) {
-            state.call(call);
-            rest = after;
-        }
+        make_all(&mut state, calls, |_| {});
         state
     }
 
@@ -122,33 +101,73 @@ impl Single {
         (state.call(self.call), state.report())
     }
 
-    /// A pass makes the call many times, each on a copy of the state; the copying
-    /// is part of the time, and the peer's allocates. The library has to answer and
-    /// to report as the peer does.
+    /// Whether the call leaves the state as it is.
+    pub fn is_idle<S: Kept>(&self) -> bool {
+        let before = self.state::<S>();
+        let mut after = before.clone();
+        after.call(self.call);
+        after.is(&before)
+    }
+
+    /// A pass makes the call many times. The library has to answer and to report as
+    /// the peer does.
     pub fn work<Library: Kept + 'static>(&self) -> Result<Work<'_>, String> {
-        if self.outcome::<Library>() != self.outcome::<Scheduler>() {
+        let idle = self.is_idle::<Scheduler>();
+        let same = self.outcome::<Library>() == self.outcome::<Scheduler>();
+        if !same || self.is_idle::<Library>() != idle {
             return Err(format!("{} differs", self.name));
         }
-        let (call, library, peer) = (
-            self.call,
-            self.state::<Library>(),
-            self.state::<Scheduler>(),
-        );
+        let passes = [self.pass::<Library>(idle), self.pass::<Scheduler>(idle)];
         Ok(Work {
             name: self.name,
             calls: PASS,
-            passes: [
-                Box::new(move || pass(&library, call)),
-                Box::new(move || pass(&peer, call)),
-            ],
+            passes,
         })
+    }
+
+    /// A call that leaves the state as it is is made on the one state again and
+    /// again. Any other is made on a copy each time: the copying is part of the time,
+    /// and has a row of its own.
+    fn pass<S: Kept + 'static>(&self, idle: bool) -> Box<dyn Fn()> {
+        let (call, state) = (self.call, RefCell::new(self.state::<S>()));
+        if idle {
+            return Box::new(move || call_again(&mut *state.borrow_mut(), call));
+        }
+        Box::new(move || call_copies(&*state.borrow(), call))
     }
 }
 
-fn pass(state: &impl Kept, call: Call) {
+fn call_again(state: &mut impl Kept, call: Call) {
+    for _ in 0..PASS {
+        black_box(state.call(black_box(call)));
+        black_box(&state);
+    }
+}
+
+fn call_copies(state: &impl Kept, call: Call) {
     for _ in 0..PASS {
         let mut copy = black_box(state).clone();
         black_box(copy.call(black_box(call)));
         black_box(&copy);
+    }
+}
+
+/// Copies of the fullest state, without a call. The peer's allocate.
+pub fn copies<Library: Kept + 'static>() -> Work<'static> {
+    let full = single("", &all_settled(), Call::Finish);
+    let (library, peer) = (full.state::<Library>(), full.state::<Scheduler>());
+    Work {
+        name: "a copy of the state alone",
+        calls: PASS,
+        passes: [
+            Box::new(move || copy(&library)),
+            Box::new(move || copy(&peer)),
+        ],
+    }
+}
+
+fn copy(state: &impl Kept) {
+    for _ in 0..PASS {
+        black_box(black_box(state).clone());
     }
 }

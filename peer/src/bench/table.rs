@@ -3,6 +3,7 @@
 use std::fmt;
 
 const HEAD: &str = "| workload | library | peer | ratio |\n|---|---|---|---|";
+const RATES: &str = "| millions of calls a second | library | peer |\n|---|---|---|";
 
 /// A workload with the times of one call, in nanoseconds.
 pub struct Row {
@@ -18,6 +19,14 @@ pub fn print(rows: &[Row]) {
     }
 }
 
+/// How many calls a second the rows are, in millions.
+pub fn print_rates<'a>(rows: impl Iterator<Item = &'a Row>) {
+    println!("{RATES}");
+    for row in rows {
+        println!("{}", row.rates());
+    }
+}
+
 impl Row {
     /// From the times of a pass of the library and one of the peer, and the
     /// calls that either makes.
@@ -27,6 +36,11 @@ impl Row {
             library: library / calls as f64,
             peer: peer / calls as f64,
         }
+    }
+
+    pub fn rates(&self) -> String {
+        let [library, peer] = [self.library, self.peer].map(|time| figures(1000.0 / time, 3));
+        format!("| {} | {library} | {peer} |", self.name)
     }
 }
 

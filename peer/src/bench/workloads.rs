@@ -2,12 +2,14 @@
 //! files of calls that change nothing.
 
 use super::bytes::{all_held, all_settled, closings, hand_ins, ring, sheet, star, Pair};
+use super::kept::{make_all, Kept};
 use super::timing::Work;
 use crate::compare::agree;
 use crate::library::{run_into, LONGEST_REPORT};
 use crate::peer as second;
 use crate::peer::calls::split_call;
-use crate::random::{admitted_sheet, mixed_list, Random};
+use crate::peer::Scheduler;
+use crate::random::{admitted_sheet, hostile_sheet, mixed_list, Random};
 use std::hint::black_box;
 
 const SEED: u64 = 3;
@@ -33,7 +35,20 @@ pub fn list() -> Vec<Workload> {
     list.push(one(name, star(), hand_ins(16)));
     list.extend(on_settled());
     list.extend(on_held());
+    list.push(long(&mut random));
     list
+}
+
+/// The places in the list of those whose calls are also made one by one.
+pub const KEPT: [usize; 4] = [0, 1, 2, 14];
+
+/// Their lists, to be made one by one.
+pub fn one_by_one(list: &[Workload]) -> Vec<Workload> {
+    let renamed = |place: usize| Workload {
+        name: format!("{}, one by one", list[place].name),
+        pairs: list[place].pairs.clone(),
+    };
+    KEPT.map(renamed).into()
 }
 
 impl Workload {
@@ -73,6 +88,42 @@ impl Workload {
             passes: [Box::new(library), Box::new(peer)],
         }
     }
+
+    /// A pass opens a state for each list and makes the calls one by one. The library
+    /// has to answer each and to report as the peer does.
+    pub fn kept_work<Library: Kept>(&self) -> Result<Work<'_>, String> {
+        for pair in &self.pairs {
+            if outcome::<Library>(pair) != outcome::<Scheduler>(pair) {
+                return Err(format!("{} differs", self.name));
+            }
+        }
+        Ok(Work {
+            name: &self.name,
+            calls: self.calls(),
+            passes: [
+                Box::new(|| self.pass::<Library>()),
+                Box::new(|| self.pass::<Scheduler>()),
+            ],
+        })
+    }
+
+    fn pass<S: Kept>(&self) {
+        for (sheet, calls) in &self.pairs {
+            let mut state = S::open(black_box(sheet));
+            make_all(&mut state, black_box(calls), |number| {
+                black_box(number);
+            });
+            black_box(&state);
+        }
+    }
+}
+
+/// The number of each call and the report after them.
+fn outcome<S: Kept>((sheet, calls): &Pair) -> (Vec<u8>, Vec<u8>) {
+    let mut state = S::open(sheet);
+    let mut numbers = Vec::new();
+    make_all(&mut state, calls, |number| numbers.push(number));
+    (numbers, state.report())
 }
 
 fn count_calls(mut calls: &[u8]) -> usize {
@@ -157,4 +208,11 @@ fn on_held() -> [Workload; 2] {
         ),
         filled("hand-ins of a held event", &sheet, calls, &[16, 5]),
     ]
+}
+
+/// A file of calls of all sorts on a sheet of 16 events and 16 rules.
+fn long(random: &mut Random) -> Workload {
+    let made = hostile_sheet(random);
+    let calls = mixed_list(random, &made, FILE / 2, CLOSING);
+    one("a long list: 32,768 calls of all sorts", made.bytes, calls)
 }

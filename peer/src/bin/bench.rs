@@ -1,20 +1,36 @@
-//! Times the library beside the peer and prints a table in markdown, with a row
-//! for each workload: the time of one call, its list's reading of the sheet and
-//! report included, and the library's time over the peer's. All reports are
-//! compared first; a difference ends the run with status 1.
+//! Times the library beside the peer and prints two tables in markdown. The first
+//! has a row for each workload: the time of one call, its list's reading of the
+//! sheet and report included (of a list made one by one, the reading alone), and the
+//! library's time over the peer's; then single calls on full states. The second says
+//! how many calls a second the lists are that are run and made one by one. All
+//! answers and reports are compared first; a difference ends the run with status 1.
 
-use peer::bench::{table, timing, workloads};
-use peer::library;
+use peer::bench::{single, table, timing, workloads};
+use peer::library::{self, State};
 use std::process::ExitCode;
 
 fn run() -> Result<(), String> {
-    let workloads = workloads::list();
+    let lists = workloads::list();
+    let (kept, singles) = (workloads::one_by_one(&lists), single::list());
     let mut works = Vec::new();
-    for workload in &workloads {
-        workload.compare(library::run)?;
-        works.push(workload.work());
+    for list in &lists {
+        list.compare(library::run)?;
+        works.push(list.work());
     }
-    table::print(&timing::measure(&works));
+    for list in &kept {
+        works.push(list.kept_work::<State>()?);
+    }
+    for single in &singles {
+        works.push(single.work::<State>()?);
+    }
+    works.push(single::copies::<State>());
+    let rows = timing::measure(&works);
+    table::print(&rows);
+    println!();
+    let both = workloads::KEPT
+        .into_iter()
+        .chain(lists.len()..lists.len() + kept.len());
+    table::print_rates(both.map(|place| &rows[place]));
     Ok(())
 }
 

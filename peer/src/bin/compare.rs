@@ -1,8 +1,22 @@
-//! `compare SEED COUNT`: the library against the peer on random pairs.
+//! `compare SEED COUNT`: the library against the peer on random pairs, as lists and
+//! as single calls on a kept state; then damaged copies of as many states.
 
 use peer::compare::{compare, COUNT, SEED};
-use peer::library;
+use peer::images::{damaged, single};
+use peer::library::{self, State};
 use std::process::ExitCode;
+
+/// Prints what was met with.
+fn run(seed: u64, count: usize) -> Result<(), String> {
+    let lists = compare(seed, count, library::run).map_err(|found| found.to_string())?;
+    println!("lists: {lists:#?}");
+    let calls = single::compare::<State>(seed, count)?;
+    println!("single calls: {calls:#?}");
+    let damage = damaged::compare(seed, count, &damaged::LIBRARY)?;
+    println!("damaged states: {damage:#?}");
+    println!("{count} pairs, 0 differences");
+    Ok(())
+}
 
 fn main() -> ExitCode {
     let mut arguments = std::env::args().skip(1).map(|text| text.parse::<u64>());
@@ -15,15 +29,9 @@ fn main() -> ExitCode {
             return ExitCode::FAILURE;
         }
     };
-    match compare(seed, count as usize, library::run) {
-        Ok(tally) => {
-            println!("{tally:#?}");
-            println!("{} pairs, 0 differences", tally.pairs);
-            ExitCode::SUCCESS
-        }
-        Err(difference) => {
-            println!("{difference}");
-            ExitCode::FAILURE
-        }
+    if let Err(difference) = run(seed, count as usize) {
+        println!("{difference}");
+        return ExitCode::FAILURE;
     }
+    ExitCode::SUCCESS
 }

@@ -2,6 +2,7 @@
 
 use super::sheets::Made;
 use super::{random_bytes, Random};
+use crate::peer::calls::{split_call, Call};
 
 /// A list of calls for a sheet: short, middling or long.
 pub fn calls(random: &mut Random, made: &Made) -> Vec<u8> {
@@ -28,6 +29,30 @@ pub fn calls(random: &mut Random, made: &Made) -> Vec<u8> {
         _ => {}
     }
     list
+}
+
+/// The readable calls of a list for a sheet, with some of any number among them.
+pub fn single_calls(random: &mut Random, made: &Made) -> Vec<Call> {
+    let list = calls(random, made);
+    let mut rest = list.as_slice();
+    let mut single = Vec::new();
+    while let Some((call, after)) = split_call(rest) {
+        if random.percent(8) {
+            single.push(any_call(random));
+        }
+        single.push(call);
+        rest = after;
+    }
+    single
+}
+
+/// A call with any byte as its number.
+pub fn any_call(random: &mut Random) -> Call {
+    match random.below(5) {
+        0 | 1 => Call::Submit(random.byte()),
+        2 | 3 => Call::CloseStep(random.byte()),
+        _ => Call::Finish,
+    }
 }
 
 /// Calls of all sorts, of which `closing` per cent close a step.

@@ -5,7 +5,7 @@ mod lists;
 mod shapes;
 mod sheets;
 
-pub use lists::{calls, hostile_list, mixed_list};
+pub use lists::{any_call, calls, hostile_list, mixed_list, single_calls};
 pub use shapes::hostile_sheet;
 pub use sheets::{admitted_sheet, sheet, Made};
 

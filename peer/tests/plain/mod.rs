@@ -1,7 +1,8 @@
 //! The words of document 01 taken one by one, with no regard to speed: fates in
 //! an array, and a search that tries every order in turn. The peer's own search
-//! is checked against it.
+//! is checked against it, and the library's calls on states that a caller brings.
 
+/// In the sequence of the C header's numbers.
 #[derive(Clone, Copy, PartialEq, Eq, Debug)]
 pub enum Fate {
     Open,
@@ -18,11 +19,11 @@ pub struct Plain {
     steps: Vec<u8>,
     /// Kind and named events.
     rules: Vec<Vec<u8>>,
-    fates: Vec<Fate>,
-    history: Vec<(u8, Fate)>,
-    broken: Vec<bool>,
-    closed: [bool; 8],
-    refused_calls: usize,
+    pub fates: Vec<Fate>,
+    pub history: Vec<(u8, Fate)>,
+    pub broken: Vec<bool>,
+    pub closed: [bool; 8],
+    pub refused_calls: usize,
 }
 
 impl Plain {
@@ -207,7 +208,7 @@ impl Plain {
         }
     }
 
-    fn submit(&mut self, event: u8) {
+    pub fn submit(&mut self, event: u8) {
         if usize::from(event) >= self.fates.len() {
             self.refused_calls += 1;
             return;
@@ -239,7 +240,7 @@ impl Plain {
         }
     }
 
-    fn close_step(&mut self, step: u8) {
+    pub fn close_step(&mut self, step: u8) {
         if !self.steps.contains(&step) || self.closed[usize::from(step)] {
             self.refused_calls += 1;
             return;
@@ -253,7 +254,7 @@ impl Plain {
         self.settle();
     }
 
-    fn finish(&mut self) {
+    pub fn finish(&mut self) {
         if self
             .steps
             .iter()

@@ -1,0 +1,85 @@
+//! What has become of an event.
+
+use std::fmt;
+
+/// What has become of an event.
+///
+/// More variants will come: a library of a later version knows a fate `forced`,
+/// with number 5. Until this crate names it, it is [`Fate::Other`].
+///
+/// ```
+/// use sinewhopa::Fate;
+///
+/// assert_eq!(Fate::Held.number(), 1);
+/// assert_eq!(Fate::Refused.to_string(), "refused");
+/// assert!(Fate::Lapsed.is_settled() && !Fate::Held.is_settled());
+/// ```
+#[derive(Clone, Copy, Debug, PartialEq, Eq, Hash)]
+#[non_exhaustive]
+pub enum Fate {
+    /// It has not been handed in.
+    Open,
+    /// It has been handed in and waits.
+    Held,
+    /// It is done.
+    Done,
+    /// It is refused.
+    Refused,
+    /// It was open when its step was closed.
+    Lapsed,
+    /// A fate that this crate has no name for yet, by its number.
+    Other(u8),
+}
+
+impl Fate {
+    /// The fate of a number.
+    ///
+    /// ```
+    /// use sinewhopa::Fate;
+    ///
+    /// assert_eq!(Fate::from_number(2), Fate::Done);
+    /// assert_eq!(Fate::from_number(200), Fate::Other(200));
+    /// ```
+    pub fn from_number(number: u8) -> Fate {
+        match number {
+            0 => Fate::Open,
+            1 => Fate::Held,
+            2 => Fate::Done,
+            3 => Fate::Refused,
+            4 => Fate::Lapsed,
+            _ => Fate::Other(number),
+        }
+    }
+
+    /// The number that stands for it in a state's bytes.
+    pub fn number(self) -> u8 {
+        match self {
+            Fate::Open => 0,
+            Fate::Held => 1,
+            Fate::Done => 2,
+            Fate::Refused => 3,
+            Fate::Lapsed => 4,
+            Fate::Other(number) => number,
+        }
+    }
+
+    /// Neither open nor held: the event has its line in the history, and its fate
+    /// never changes again.
+    pub fn is_settled(self) -> bool {
+        self.number() > Fate::Held.number()
+    }
+}
+
+/// The word that reports have for it.
+impl fmt::Display for Fate {
+    fn fmt(&self, out: &mut fmt::Formatter<'_>) -> fmt::Result {
+        match self {
+            Fate::Open => out.pad("open"),
+            Fate::Held => out.pad("held"),
+            Fate::Done => out.pad("done"),
+            Fate::Refused => out.pad("refused"),
+            Fate::Lapsed => out.pad("lapsed"),
+            Fate::Other(number) => write!(out, "fate {number}"),
+        }
+    }
+}

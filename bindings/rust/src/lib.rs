@@ -1,0 +1,84 @@
+//! Sinewhopa, a proved scheduler, for hosts in Rust.
+//!
+//! A host opens a [`State`] for each of its plans, hands in events as they are
+//! reported to it, closes steps and winds up; it may store the state's 384 bytes
+//! after each call and go on from them after a restart. [`run`] makes a whole
+//! list of calls on a sheet in one go. What sheets and calls are, byte by byte,
+//! and what each call does is in the repository's README.
+//!
+//! ```
+//! use sinewhopa::{Fate, State};
+//!
+//! let sheet = [1, 0, 6, 1, 1, 6, 2, 0, 1, 5]; // event 0 before event 1
+//! let mut state = State::open(&sheet)?;
+//! assert_eq!(state.submit(1)?, Fate::Held);
+//!
+//! let stored = *state.as_bytes();
+//! let mut state = State::from_bytes(&stored)?;
+//! assert_eq!(state.submit(0)?, Fate::Done);
+//! assert_eq!(state.fate(1), Some(Fate::Done));
+//! # Ok::<(), Box<dyn std::error::Error>>(())
+//! ```
+//!
+//! Nothing here panics, whatever it is given. The library keeps nothing between
+//! calls; states may be used from any thread.
+
+#![warn(missing_docs)]
+#![deny(unsafe_code)]
+
+mod fate;
+mod faults;
+mod layout;
+#[allow(unsafe_code)]
+pub mod raw;
+mod state;
+
+pub use fate::Fate;
+pub use faults::{CallFault, SheetFault};
+pub use state::State;
+
+/// The bytes of a state.
+pub const STATE_LEN: usize = 384;
+
+/// No report is longer.
+pub const LONGEST_REPORT: usize = 320;
+
+/// Runs a list of calls on a sheet and gives the report, which is what the runner
+/// prints. Any bytes may be given as either.
+///
+/// ```
+/// let sheet = [1, 0, 6, 1, 1, 6, 2, 0, 1, 3, 0, 1, 5];
+/// let report = sinewhopa::run(&sheet, &[16, 0, 16, 1]);
+/// let lines = "events 2 rules 2\n0 done\n1 done\nheld 0\nbroken 0\nrefused calls 0\n";
+/// assert_eq!(report, lines.as_bytes());
+/// assert_eq!(sinewhopa::run(&[], &[]), b"refused 1 at 0\n");
+/// ```
+pub fn run(sheet: &[u8], calls: &[u8]) -> Vec<u8> {
+    filled(|out| raw::run(sheet, calls, out))
+}
+
+/// Runs a list of calls on a sheet, writes the report at the start of `out` and
+/// gives its length. Where that is more than `out` has, `out` is left as it was;
+/// [`LONGEST_REPORT`] bytes are always enough.
+///
+/// ```
+/// let mut out = [0; sinewhopa::LONGEST_REPORT];
+/// let length = sinewhopa::run_into(&[], &[], &mut out);
+/// assert_eq!(&out[..length], b"refused 1 at 0\n");
+/// assert_eq!(sinewhopa::run_into(&[], &[], &mut []), length);
+/// ```
+pub fn run_into(sheet: &[u8], calls: &[u8], out: &mut [u8]) -> usize {
+    raw::run(sheet, calls, out)
+}
+
+/// What `write` writes at the start of a buffer that is as long as it asks for.
+fn filled(write: impl Fn(&mut [u8]) -> usize) -> Vec<u8> {
+    let mut out = vec![0; LONGEST_REPORT];
+    let mut length = write(&mut out);
+    if length > out.len() {
+        out.resize(length, 0);
+        length = write(&mut out);
+    }
+    out.truncate(length);
+    out
+}

@@ -1,0 +1,282 @@
+//! A state that a host keeps.
+
+use crate::layout::{self, row};
+use crate::{filled, raw, CallFault, Fate, SheetFault, STATE_LEN};
+use std::fmt;
+
+/// The state of one plan: what its sheet declares, what has become of each event,
+/// and the history. It is 384 bytes in a layout that is fixed for ever, made by
+/// [`State::open`] and changed by calls alone; it can be stored and sent as
+/// [`State::as_bytes`] and comes back by [`State::from_bytes`]. A `State` always
+/// passes number 12, whatever calls are made on it.
+///
+/// ```
+/// use sinewhopa::{Fate, State};
+///
+/// // Events 0 and 1, both may wait or be refused: 0 before 1, and 0 only if 1.
+/// let sheet = [1, 0, 6, 1, 1, 6, 2, 0, 1, 3, 0, 1, 5];
+/// let mut state = State::open(&sheet)?;
+/// assert_eq!(state.submit(0)?, Fate::Held); // it needs 1
+/// assert_eq!(state.submit(1)?, Fate::Done);
+/// let history: Vec<(u8, Fate)> = state.history().collect();
+/// assert_eq!(history, [(0, Fate::Done), (1, Fate::Done)]);
+/// # Ok::<(), Box<dyn std::error::Error>>(())
+/// ```
+#[derive(Clone, PartialEq, Eq, Hash)]
+pub struct State {
+    bytes: [u8; STATE_LEN],
+}
+
+impl State {
+    /// Reads a sheet and gives its first state.
+    ///
+    /// ```
+    /// use sinewhopa::{SheetFault, State};
+    ///
+    /// assert_eq!(State::open(&[1, 0, 6, 5])?.event_count(), 1);
+    /// assert_eq!(State::open(&[]), Err(SheetFault::Cut { at: 0 }));
+    /// # Ok::<(), SheetFault>(())
+    /// ```
+    pub fn open(sheet: &[u8]) -> Result<State, SheetFault> {
+        let mut bytes = [0; STATE_LEN];
+        match raw::open(&mut bytes, sheet) {
+            (0, _) => Ok(State { bytes }),
+            (number, at) => Err(SheetFault::from_number(number, at)),
+        }
+    }
+
+    /// Hands in an event and gives its fate: done, held or refused. Further events
+    /// may be settled with it; they have their lines at the end of the history. An
+    /// event that is not open any more keeps its fate, which is given again.
+    ///
+    /// ```
+    /// use sinewhopa::{CallFault, Fate, State};
+    ///
+    /// let mut state = State::open(&[1, 0, 6, 5])?;
+    /// assert_eq!(state.submit(0), Ok(Fate::Done));
+    /// assert_eq!(state.submit(0), Ok(Fate::Done));
+    /// assert_eq!(state.submit(1), Err(CallFault::Unknown));
+    /// # Ok::<(), sinewhopa::SheetFault>(())
+    /// ```
+    pub fn submit(&mut self, event: u8) -> Result<Fate, CallFault> {
+        taken(raw::submit(&mut self.bytes, event))?;
+        // A call that is taken names a declared event.
+        self.fate(event).ok_or(CallFault::Unknown)
+    }
+
+    /// Closes a step: nothing more will come of it, and its open events lapse.
+    ///
+    /// ```
+    /// use sinewhopa::{CallFault, Fate, State};
+    ///
+    /// let mut state = State::open(&[1, 0, 6, 5])?;
+    /// assert_eq!(state.close_step(0), Ok(()));
+    /// assert_eq!(state.fate(0), Some(Fate::Lapsed));
+    /// assert_eq!(state.close_step(0), Err(CallFault::AlreadyClosed));
+    /// assert_eq!(state.close_step(1), Err(CallFault::Unknown));
+    /// # Ok::<(), sinewhopa::SheetFault>(())
+    /// ```
+    pub fn close_step(&mut self, step: u8) -> Result<(), CallFault> {
+        taken(raw::close_step(&mut self.bytes, step))
+    }
+
+    /// Winds up, once every step that has an event is closed: what is still held is
+    /// refused, the lowest first.
+    ///
+    /// ```
+    /// use sinewhopa::{Fate, State};
+    ///
+    /// // Each of two events has to come before the other.
+    /// let mut state = State::open(&[1, 0, 6, 1, 0, 6, 2, 0, 1, 2, 1, 0, 5])?;
+    /// state.submit(0)?;
+    /// state.submit(1)?;
+    /// state.close_step(0)?;
+    /// assert_eq!(state.held().count(), 2);
+    /// state.finish()?;
+    /// let history: Vec<(u8, Fate)> = state.history().collect();
+    /// assert_eq!(history, [(0, Fate::Refused), (1, Fate::Done)]);
+    /// # Ok::<(), Box<dyn std::error::Error>>(())
+    /// ```
+    pub fn finish(&mut self) -> Result<(), CallFault> {
+        taken(raw::finish(&mut self.bytes))
+    }
+
+    /// What has become of an event; none where it is not declared.
+    ///
+    /// ```
+    /// use sinewhopa::{Fate, State};
+    ///
+    /// let state = State::open(&[1, 0, 6, 5])?;
+    /// assert_eq!(state.fate(0), Some(Fate::Open));
+    /// assert_eq!(state.fate(1), None);
+    /// # Ok::<(), sinewhopa::SheetFault>(())
+    /// ```
+    pub fn fate(&self, event: u8) -> Option<Fate> {
+        let fate = self.fates().get(usize::from(event))?;
+        Some(Fate::from_number(*fate))
+    }
+
+    /// The events that wait, the lowest first.
+    ///
+    /// ```
+    /// use sinewhopa::State;
+    ///
+    /// let mut state = State::open(&[1, 0, 6, 1, 1, 6, 2, 0, 1, 5])?;
+    /// state.submit(1)?; // it waits for 0
+    /// assert_eq!(state.held().collect::<Vec<u8>>(), [1]);
+    /// # Ok::<(), Box<dyn std::error::Error>>(())
+    /// ```
+    pub fn held(&self) -> impl Iterator<Item = u8> + '_ {
+        let numbered = (0..).zip(self.fates());
+        let held = numbered.filter(|(_, fate)| **fate == Fate::Held.number());
+        held.map(|(event, _)| event)
+    }
+
+    /// The settled events and how each was settled, the oldest first. It only ever
+    /// grows at its end.
+    ///
+    /// ```
+    /// use sinewhopa::{Fate, State};
+    ///
+    /// let mut state = State::open(&[1, 0, 6, 1, 1, 6, 5])?;
+    /// state.close_step(1)?;
+    /// state.submit(0)?;
+    /// let history: Vec<(u8, Fate)> = state.history().collect();
+    /// assert_eq!(history, [(1, Fate::Lapsed), (0, Fate::Done)]);
+    /// # Ok::<(), Box<dyn std::error::Error>>(())
+    /// ```
+    pub fn history(&self) -> impl Iterator<Item = (u8, Fate)> + '_ {
+        let lines = self.bytes[layout::LINES];
+        let events = row(&self.bytes, layout::LINE_EVENT, lines).iter();
+        let fates = row(&self.bytes, layout::LINE_FATE, lines).iter();
+        let lines = events.zip(fates);
+        lines.map(|(event, fate)| (*event, Fate::from_number(*fate)))
+    }
+
+    /// How many events the sheet declares, at most 16.
+    ///
+    /// ```
+    /// # use sinewhopa::State;
+    /// assert_eq!(State::open(&[6, 0, 5])?.event_count(), 4);
+    /// # Ok::<(), sinewhopa::SheetFault>(())
+    /// ```
+    pub fn event_count(&self) -> u8 {
+        self.bytes[layout::EVENTS]
+    }
+
+    /// How many rules the sheet declares, at most 16.
+    ///
+    /// ```
+    /// # use sinewhopa::State;
+    /// assert_eq!(State::open(&[6, 0, 2, 0, 2, 5])?.rule_count(), 1);
+    /// # Ok::<(), sinewhopa::SheetFault>(())
+    /// ```
+    pub fn rule_count(&self) -> u8 {
+        self.bytes[layout::RULES]
+    }
+
+    /// Whether the step is closed; no step above 7 is.
+    ///
+    /// ```
+    /// # use sinewhopa::State;
+    /// let mut state = State::open(&[1, 3, 6, 5])?;
+    /// assert!(!state.is_closed(3));
+    /// state.close_step(3)?;
+    /// assert!(state.is_closed(3) && !state.is_closed(200));
+    /// # Ok::<(), Box<dyn std::error::Error>>(())
+    /// ```
+    pub fn is_closed(&self, step: u8) -> bool {
+        marked(row(&self.bytes, layout::CLOSED, layout::STEPS), step)
+    }
+
+    /// Whether the rule is recorded as broken; a rule that is not declared never is.
+    /// Only an event that may be neither held nor refused breaks a rule.
+    ///
+    /// ```
+    /// # use sinewhopa::State;
+    /// // Events 0 and 1 are forcible alone, and 0 needs 1, which has lapsed.
+    /// let mut state = State::open(&[1, 0, 1, 1, 1, 1, 3, 0, 1, 5])?;
+    /// state.close_step(1)?;
+    /// state.submit(0)?;
+    /// assert!(state.is_broken(0) && !state.is_broken(1));
+    /// # Ok::<(), Box<dyn std::error::Error>>(())
+    /// ```
+    pub fn is_broken(&self, rule: u8) -> bool {
+        marked(row(&self.bytes, layout::BROKEN, self.rule_count()), rule)
+    }
+
+    /// The bytes, to be stored or sent.
+    ///
+    /// ```
+    /// # use sinewhopa::State;
+    /// let state = State::open(&[1, 0, 6, 5])?;
+    /// assert_eq!(state.as_bytes()[..4], [1, 1, 0, 0]); // version, events, rules, lines
+    /// # Ok::<(), sinewhopa::SheetFault>(())
+    /// ```
+    pub fn as_bytes(&self) -> &[u8; STATE_LEN] {
+        &self.bytes
+    }
+
+    /// The state of these bytes. They may come from anywhere: what is not a state
+    /// that hangs together is turned down with [`CallFault::Incoherent`].
+    ///
+    /// ```
+    /// use sinewhopa::{CallFault, State};
+    ///
+    /// let state = State::open(&[1, 0, 6, 5])?;
+    /// let stored: Vec<u8> = state.as_bytes().to_vec();
+    /// let bytes = stored.as_slice().try_into()?;
+    /// assert_eq!(State::from_bytes(bytes)?, state);
+    /// assert_eq!(State::from_bytes(&[0; 384]), Err(CallFault::Incoherent));
+    /// # Ok::<(), Box<dyn std::error::Error>>(())
+    /// ```
+    pub fn from_bytes(bytes: &[u8; STATE_LEN]) -> Result<State, CallFault> {
+        taken(raw::check(bytes))?;
+        Ok(State { bytes: *bytes })
+    }
+
+    /// The report of the state, as the runner prints it after a list in which
+    /// `refused` calls were turned down.
+    ///
+    /// ```
+    /// # use sinewhopa::State;
+    /// let mut state = State::open(&[1, 0, 6, 5])?;
+    /// state.submit(0)?;
+    /// let report = "events 1 rules 0\n0 done\nheld 0\nbroken 0\nrefused calls 2\n";
+    /// assert_eq!(state.report(2), report.as_bytes());
+    /// # Ok::<(), Box<dyn std::error::Error>>(())
+    /// ```
+    pub fn report(&self, refused: usize) -> Vec<u8> {
+        filled(|out| raw::report(&self.bytes, refused, out))
+    }
+
+    fn fates(&self) -> &[u8] {
+        row(&self.bytes, layout::FATE, self.event_count())
+    }
+}
+
+/// What the state says, in place of 384 numbers.
+impl fmt::Debug for State {
+    fn fmt(&self, out: &mut fmt::Formatter<'_>) -> fmt::Result {
+        let fates = self.fates().iter().map(|fate| Fate::from_number(*fate));
+        let closed = (0..layout::STEPS).filter(|step| self.is_closed(*step));
+        let broken = (0..self.rule_count()).filter(|rule| self.is_broken(*rule));
+        out.debug_struct("State")
+            .field("fates", &fates.collect::<Vec<Fate>>())
+            .field("closed", &closed.collect::<Vec<u8>>())
+            .field("broken", &broken.collect::<Vec<u8>>())
+            .field("history", &self.history().collect::<Vec<(u8, Fate)>>())
+            .finish_non_exhaustive()
+    }
+}
+
+fn taken(number: u8) -> Result<(), CallFault> {
+    match number {
+        0 => Ok(()),
+        _ => Err(CallFault::from_number(number)),
+    }
+}
+
+fn marked(marks: &[u8], place: u8) -> bool {
+    marks.get(usize::from(place)) == Some(&1)
+}

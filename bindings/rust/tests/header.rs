@@ -1,0 +1,110 @@
+//! The numbers here are those of the C header.
+
+use sinewhopa::{raw, CallFault, Fate, SheetFault, State, LONGEST_REPORT, STATE_LEN};
+use std::collections::BTreeMap;
+
+const HEADER: &str = include_str!("../../../include/sinewhopa.h");
+
+/// The header's constants, each with its number.
+fn constants() -> BTreeMap<&'static str, usize> {
+    let defined = HEADER
+        .lines()
+        .filter_map(|line| line.strip_prefix("#define SINEWHOPA_"));
+    let number = |line: &'static str| {
+        let mut words = line.split_whitespace();
+        Some((words.next()?, words.next()?.parse().ok()?))
+    };
+    defined.filter_map(number).collect()
+}
+
+#[test]
+fn numbers_are_the_headers() {
+    let constants = constants();
+    let at = 3;
+    let rows = [
+        ("REPORT_MOST", LONGEST_REPORT),
+        ("OPEN", Fate::Open.number().into()),
+        ("HELD", Fate::Held.number().into()),
+        ("DONE", Fate::Done.number().into()),
+        ("REFUSED", Fate::Refused.number().into()),
+        ("LAPSED", Fate::Lapsed.number().into()),
+        ("CUT", SheetFault::Cut { at }.number().into()),
+        ("BAD_KIND", SheetFault::BadKind { at }.number().into()),
+        ("FULL", SheetFault::Full { at }.number().into()),
+        ("BAD_STEP", SheetFault::BadStep { at }.number().into()),
+        (
+            "BAD_ATTRIBUTES",
+            SheetFault::BadAttributes { at }.number().into(),
+        ),
+        ("BAD_NAMES", SheetFault::BadNames { at }.number().into()),
+        (
+            "UNENFORCEABLE",
+            SheetFault::Unenforceable { at }.number().into(),
+        ),
+        ("EXTRA", SheetFault::Extra { at }.number().into()),
+        ("UNKNOWN", CallFault::Unknown.number().into()),
+        ("ALREADY_CLOSED", CallFault::AlreadyClosed.number().into()),
+        ("NOT_CLOSED", CallFault::NotClosed.number().into()),
+        ("INCOHERENT", CallFault::Incoherent.number().into()),
+    ];
+    for (name, number) in rows {
+        assert_eq!(constants.get(name), Some(&number), "{name}");
+    }
+}
+
+/// The fields of the header's struct, each with its offset and length.
+fn fields() -> BTreeMap<&'static str, (usize, usize)> {
+    let mut end = 0;
+    let mut fields = BTreeMap::new();
+    let declared = HEADER
+        .lines()
+        .filter_map(|line| line.strip_prefix("    uint8_t "));
+    for line in declared {
+        let (field, _) = line.split_once(';').expect("a field");
+        let (name, length) = field.split_once('[').unwrap_or((field, "1]"));
+        let length = length.trim_end_matches(']').parse().expect("a length");
+        fields.insert(name, (end, length));
+        end += length;
+    }
+    assert_eq!(end, STATE_LEN);
+    fields
+}
+
+/// A field of the state after the calls, at the header's place.
+fn field(state: &State, name: &str) -> Vec<u8> {
+    let (start, length) = fields()[name];
+    state.as_bytes()[start..start + length].to_vec()
+}
+
+/// Readers read where the header says.
+#[test]
+fn readers_read_the_headers_fields() {
+    // 0 needs 1, which lapses; 2 and 3 wait for each other.
+    let sheet = [
+        1, 3, 1, 1, 5, 1, 1, 6, 6, 1, 6, 6, 3, 0, 1, 2, 2, 3, 2, 3, 2, 5,
+    ];
+    let mut state = State::open(&sheet).expect("an admitted sheet");
+    assert_eq!(state.close_step(5), Ok(()));
+    assert_eq!(state.submit(0), Ok(Fate::Done));
+    assert_eq!(state.submit(3), Ok(Fate::Held));
+    let counts = ["version", "events", "rules", "lines"].map(|name| field(&state, name)[0]);
+    assert_eq!(counts, [1, state.event_count(), state.rule_count(), 2]);
+    let fates = [Fate::Done, Fate::Lapsed, Fate::Open, Fate::Held];
+    for (event, fate) in (0..).zip(fates) {
+        assert_eq!(state.fate(event), Some(fate));
+        assert_eq!(field(&state, "fate")[usize::from(event)], fate.number());
+    }
+    assert_eq!(field(&state, "broken")[..3], [1, 0, 0]);
+    assert_eq!(
+        [0, 1, 2].map(|rule| state.is_broken(rule)),
+        [true, false, false]
+    );
+    assert_eq!(field(&state, "closed"), [0, 0, 0, 0, 0, 1, 0, 0]);
+    assert!((0..=255).all(|step| state.is_closed(step) == (step == 5)));
+    assert_eq!(field(&state, "line_event")[..2], [1, 0]);
+    assert_eq!(field(&state, "line_fate")[..2], [4, 2]);
+    let history: Vec<(u8, Fate)> = state.history().collect();
+    assert_eq!(history, [(1, Fate::Lapsed), (0, Fate::Done)]);
+    assert_eq!(state.held().collect::<Vec<u8>>(), [3]);
+    assert_eq!(raw::check(state.as_bytes()), 0);
+}

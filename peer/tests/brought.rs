@@ -1,0 +1,193 @@
+//! States that a caller brings, to which no list may lead: the library's calls on
+//! their bytes against a plain reading of document 01 that tries every order.
+
+#[allow(dead_code)]
+mod plain;
+
+use peer::compare::{hex, SEED};
+use peer::images::damaged::LIBRARY;
+use peer::images::layout::*;
+use peer::images::sound::is_sound;
+use peer::library::raw;
+use peer::peer::calls::Call;
+use peer::peer::Sheet;
+use peer::random::{sheet, Random};
+use plain::{Fate, Plain};
+
+const STATES: usize = 30_000;
+const CALLS: usize = 4;
+/// Trying every order takes too long among more events than these.
+const MOST: usize = 6;
+const LEAST: usize = 150;
+
+const FATES: [Fate; 5] = [
+    Fate::Open,
+    Fate::Held,
+    Fate::Done,
+    Fate::Refused,
+    Fate::Lapsed,
+];
+const DELAYABLE: u8 = 4;
+/// Delayable or forcible.
+const ACTIVE: u8 = 5;
+
+/// Any fates, marks and history over a random sheet, where that is a state that
+/// hangs together, of two events or more, and small enough.
+fn brought(random: &mut Random) -> Option<(Vec<u8>, Image)> {
+    let made = sheet(random).bytes;
+    Sheet::read(&made).ok()?;
+    let mut image = first(&made);
+    let chance = random.pick(&[0, 10, 50]);
+    for step in 0..8 {
+        image[CLOSED + step] = u8::from(random.percent(chance));
+    }
+    for rule in 0..usize::from(image[RULES]) {
+        image[BROKEN + rule] = u8::from(random.percent(chance));
+    }
+    put_fates(random, &mut image);
+    (image[EVENTS] > 1 && active(&image) <= MOST && is_sound(&image)).then_some((made, image))
+}
+
+fn put_fates(random: &mut Random, image: &mut Image) {
+    let mut events: Vec<usize> = (0..usize::from(image[EVENTS])).collect();
+    random.shuffle(&mut events);
+    for event in events {
+        let closed = image[CLOSED + usize::from(image[STEP + event])] == 1;
+        let fate = match random.pick(&[0, 0, 1, 1, 1, 2, 2, 3, 4]) {
+            1 if image[ATTRIBUTES + event] & DELAYABLE == 0 => 2,
+            0 if closed => 4,
+            fate => fate,
+        };
+        image[FATE + event] = fate;
+        if fate > 1 {
+            let line = usize::from(image[LINES]);
+            image[LINE_EVENT + line] = event as u8;
+            image[LINE_FATE + line] = fate;
+            image[LINES] += 1;
+        }
+    }
+}
+
+/// The unsettled events that an order could contain, now or later.
+fn active(image: &Image) -> usize {
+    let unsettled = |event: &usize| image[FATE + event] <= 1;
+    let events = (0..usize::from(image[EVENTS])).filter(unsettled);
+    events
+        .filter(|event| image[ATTRIBUTES + event] & ACTIVE != 0)
+        .count()
+}
+
+fn plain_of(sheet: &[u8], image: &Image) -> Plain {
+    let mut plain = Plain::read(sheet);
+    let fate = |number: u8| FATES[usize::from(number)];
+    for (event, own) in plain.fates.iter_mut().enumerate() {
+        *own = fate(image[FATE + event]);
+    }
+    for (rule, mark) in plain.broken.iter_mut().enumerate() {
+        *mark = image[BROKEN + rule] == 1;
+    }
+    plain.closed = std::array::from_fn(|step| image[CLOSED + step] == 1);
+    let lines = 0..usize::from(image[LINES]);
+    plain.history = lines
+        .map(|line| (image[LINE_EVENT + line], fate(image[LINE_FATE + line])))
+        .collect();
+    plain
+}
+
+/// The bytes after a call, over those before it.
+fn put(plain: &Plain, image: &mut Image) {
+    for (event, fate) in plain.fates.iter().enumerate() {
+        image[FATE + event] = *fate as u8;
+    }
+    for (rule, mark) in plain.broken.iter().enumerate() {
+        image[BROKEN + rule] = u8::from(*mark);
+    }
+    for (step, mark) in plain.closed.iter().enumerate() {
+        image[CLOSED + step] = u8::from(*mark);
+    }
+    image[LINES] = plain.history.len() as u8;
+    for (line, (event, fate)) in plain.history.iter().enumerate() {
+        image[LINE_EVENT + line] = *event;
+        image[LINE_FATE + line] = *fate as u8;
+    }
+}
+
+fn make(plain: &mut Plain, call: Call) {
+    match call {
+        Call::Submit(event) => plain.submit(event),
+        Call::CloseStep(step) => plain.close_step(step),
+        Call::Finish => plain.finish(),
+    }
+}
+
+fn any_call(random: &mut Random, image: &Image) -> Call {
+    match random.below(8) {
+        0..=4 => Call::Submit(random.below(usize::from(image[EVENTS]) + 1) as u8),
+        5 | 6 => Call::CloseStep(random.below(9) as u8),
+        _ => Call::Finish,
+    }
+}
+
+/// Calls that changed the state, that settled several events, that recorded a rule,
+/// and that were turned down.
+#[derive(Debug, Default)]
+struct Tally {
+    changed: usize,
+    several: usize,
+    recorded: usize,
+    turned_down: usize,
+}
+
+impl Tally {
+    fn add(&mut self, before: &Image, after: &Image, number: u8) {
+        let marks = |image: &Image| {
+            image[BROKEN..CLOSED]
+                .iter()
+                .filter(|mark| **mark == 1)
+                .count()
+        };
+        self.changed += usize::from(before != after);
+        self.several += usize::from(after[LINES] > before[LINES] + 1);
+        self.recorded += usize::from(marks(after) > marks(before));
+        self.turned_down += usize::from(number != 0);
+    }
+}
+
+fn agree(random: &mut Random, sheet: &[u8], start: &Image, tally: &mut Tally) {
+    let mut plain = plain_of(sheet, start);
+    let mut image = *start;
+    for _ in 0..CALLS {
+        let call = any_call(random, &image);
+        let (before, refused) = (image, plain.refused_calls);
+        make(&mut plain, call);
+        let mut expected = before;
+        put(&plain, &mut expected);
+        let number = (LIBRARY.call)(&mut image, call);
+        let place = format!("{call:?} on {}", hex(&before));
+        assert_eq!(number != 0, plain.refused_calls > refused, "{place}");
+        assert!(image == expected, "{place}: {}", hex(&image));
+        tally.add(&before, &image, number);
+    }
+}
+
+#[test]
+fn calls_on_brought_states_agree() {
+    let mut random = Random::new(SEED ^ 0xb40);
+    let mut tally = Tally::default();
+    let mut states = 0;
+    while states < STATES {
+        if let Some((sheet, image)) = brought(&mut random) {
+            assert_eq!(raw::check(&image), 0, "{}", hex(&image));
+            agree(&mut random, &sheet, &image, &mut tally);
+            states += 1;
+        }
+    }
+    println!("{tally:?}");
+    let counts = [
+        tally.changed,
+        tally.several,
+        tally.recorded,
+        tally.turned_down,
+    ];
+    assert!(counts.iter().all(|count| *count >= LEAST), "{tally:?}");
+}
