@@ -20,6 +20,13 @@ one-or-other true false true d = refl
 one-or-other true false false d = refl
 one-or-other false b c d = refl
 
+-- the rule asks for nothing
+pub added-unasked : (p : Plan) (f : Fates) (able : ℕ) (m : Members) (r : Rule)
+    → asks p f (inSet (m .set)) r ≡ false
+    → Added p f (inSet able) m r m
+unfolding lacks
+added-unasked p f able m r h = Added.stays (rw h) refl
+
 module _
     (p : Plan)
     (f : Fates)

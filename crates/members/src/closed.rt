@@ -90,20 +90,22 @@ fn pass_over(
 fn add_target(members: Members, rule: Rule, view: View, able: u32) -> Members
     ensures { λ r. ⌜ ((p : Plan) (f : Fates) → Shows p f view → members .ok ≡ true → Added p f (inSet able) members rule r) ⌝ }
 {
-    let target = target_of(rule);
-    if does_ask(rule, members.set, view) & !is_in(view.done | view.gone | members.set, target) {
-        if is_in(able, target) & (members.count < 6) {
+    if does_ask(rule, members.set, view) {
+        let target = target_of(rule);
+        if !is_in(view.done | view.gone | members.set, target) {
+            if is_in(able, target) & (members.count < 6) {
+                return Members {
+                    ok: true,
+                    set: with_if(members.set, target, true),
+                    count: members.count + 1,
+                };
+            }
             return Members {
-                ok: true,
-                set: with_if(members.set, target, true),
-                count: members.count + 1,
+                ok: false,
+                set: 0,
+                count: 0,
             };
         }
-        return Members {
-            ok: false,
-            set: 0,
-            count: 0,
-        };
     }
     members
 }

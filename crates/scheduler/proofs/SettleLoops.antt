@@ -22,11 +22,11 @@ use Rattle.members.specs.declared.view.View.{View}
 use Rattle.members.specs.Sets.{inSet, orSixteen, Shows}
 use Rattle.scheduler.specs.Orders.{doOne, doAll, chosen, noOrder, foundOrder}
 use Rattle.scheduler.specs.State.{fateOf, settleAs}
-use Rattle.plan.specs.Fates.{isHeld}
+use Rattle.plan.specs.Fates.{isHeld, isDone, isGone}
 use Rattle.scheduler.specs.Rules.{stands, barred}
 use Rattle.scheduler.specs.Calls.{toRefuse, toDo, settleOnce, settleUpTo, settle, refuseHeld, finish}
 use Rattle.scheduler.specs.Internal.Turned.{turnOf}
-use Rattle.plan.proofs.Tests.{and-left, clash, first-some, when-some, some-none}
+use Rattle.plan.proofs.Tests.{and-left, clash, any-none, first-some, when-some, some-none}
 use Rattle.scheduler.proofs.Branches.{upTo-none, upTo-some, lowestHeld, refuse-none, refuse-some}
 use Rattle.plan.proofs.Loops.{Rest, first-here, first-end}
 use Rattle.scheduler.proofs.Searching.{chosen-short}
@@ -136,6 +136,29 @@ module _ (s : State) (v : View) (w : Shows (s .plan) (fateOf s) v) where
     pub refuse-same : toRefuse s ≡ lowest 16 (inSet d)
     unfolding toRefuse
     refuse-same = lowest-bounds (eventCount (s .plan)) 16 (λ e. isHeld (fateOf s e) && barred s e) (inSet d) held-barred
+
+  -- where the view shows nothing done, refused or lapsed, no event is barred
+  module _ (none-done-yet : v .done ≡ 0) (none-gone-yet : v .gone ≡ 0) where
+    not-done : (x : ℕ) → isDone (fateOf s x) ≡ false
+    not-done x = sym (w .done x) ∙ ap (λ (m : ℕ). inSet m x) none-done-yet ∙ in-zero x
+
+    not-gone : (x : ℕ) → isGone (fateOf s x) ≡ false
+    not-gone x = sym (w .gone x) ∙ ap (λ (m : ℕ). inSet m x) none-gone-yet ∙ in-zero x
+
+    bars-none : (r : Rule) (x : ℕ) → bars (s .plan) (fateOf s) r x ≡ false
+    unfolding bars
+    bars-none (Order a b) x = rw (not-done b) (and-false (eqb x a))
+    bars-none (Need a b) x = rw (not-gone b) (and-false (eqb x a))
+    bars-none (Conditional a b c) x = rw (not-gone c)
+
+    unbarred : (x : ℕ) → barred s x ≡ false
+    unfolding barred
+    unbarred x = any-none (ruleCount (s .plan)) _ (λ i lt. ap (λ (b : Bool). stands s i && b) (bars-none (ruleAt (s .plan) i) x) ∙ and-false (stands s i))
+
+    pub none-barred : 16 ≡ orSixteen (toRefuse s)
+    unfolding toRefuse lowest
+    none-barred =
+        sym (ap orSixteen (first-nowhere (eventCount (s .plan)) 0 _ (λ x lo hi. rw (unbarred x, and-false (isHeld (fateOf s x))))))
 
   -- where the view shows nothing held there is no turn to make
   module _ (e : ℕ) (same : e ≡ orSixteen (lowest 16 (inSet (v .held)))) (q : e ≡ 16) where

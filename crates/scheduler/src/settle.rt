@@ -55,11 +55,14 @@ impl State {
         next
     }
 
-    // The lowest held event that is barred; 16 if there is none.
+    // The lowest held event that is barred; 16 if there is none. Where nothing is done, refused or lapsed, no rule bars.
     fn find_barred(self, view: View) -> u8
         requires { ⌜ Shows (self .plan) (fateOf self) view ⌝ }
         ensures { λ r. ⌜ r ≡ orSixteen (toRefuse self) ⌝ }
     {
+        if (view.done == 0) & (view.gone == 0) {
+            return 16;
+        }
         let plan = self.plan;
         let rules = plan.rules;
         let broken = self.broken;
