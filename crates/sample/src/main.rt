@@ -247,8 +247,42 @@ fn show_calls(sheet: &[u8]) {
     after_call(b"hand in 0, a line too many:", torn.submit(0));
 }
 
+// What a call does in a list, where number 12 is not tested: turned down, idle, or so many lines of history after it.
+fn show_effect(name: &[u8], state: State, made: Call) {
+    io::write_all(STDOUT_FILENO, name);
+    if state.turns_down(made) {
+        io::write_all(STDOUT_FILENO, b" turned down\n");
+        return;
+    }
+    if state.is_idle(made) {
+        io::write_all(STDOUT_FILENO, b" idle\n");
+        return;
+    }
+    show_number(
+        b" taken, lines ",
+        readers::line_count(state.after_call(made)) as u64,
+    );
+    io::write_all(STDOUT_FILENO, b"\n");
+}
+
+// The calls of a list on a sheet's first state, and once its steps 0 and 1 are closed.
+fn show_effects(sheet: &[u8]) {
+    let reading = sheet::read::read_sheet(sheet);
+    let first = reading.state;
+    show_effect(b"in a list, hand in 0:", first, Call::Submit(0));
+    show_effect(b"in a list, hand in 9:", first, Call::Submit(9));
+    show_effect(b"in a list, close step 1:", first, Call::Close(1));
+    show_effect(b"in a list, wind up:", first, Call::Finish);
+    let once = first.after_call(Call::Close(0));
+    let closed = once.after_call(Call::Close(1));
+    show_effect(b"both closed, hand in 0:", closed, Call::Submit(0));
+    show_effect(b"both closed, close step 0:", closed, Call::Close(0));
+    show_effect(b"both closed, wind up:", closed, Call::Finish);
+}
+
 fn main() {
     show_calls(b"\x01\x00\x06\x01\x01\x06\x02\x00\x01\x03\x00\x01\x05");
+    show_effects(b"\x01\x00\x06\x01\x01\x06\x02\x00\x01\x03\x00\x01\x05");
     show_reading(
         b"A",
         b"\x01\x00\x06\x01\x01\x06\x02\x00\x01\x03\x00\x01\x05",
