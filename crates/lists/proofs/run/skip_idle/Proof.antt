@@ -58,18 +58,24 @@ returns-2 c = (c .before .before .before .before .before .before .before .before
 
 add-refused : tie.Need-add-refused Inv-loop μ-loop
 add-refused c =
+    let r = c .before .before .before .before .before .before in
+    let at = r .before .before .before .loop in
     let size = ap callSize (c .before .before .before .made .given .1) in
-    omega (arith, size, c .before .before .before .before .before .before .before .before .before .loop .inv .2, record-fits _ (c .before .before .before .before .before .before .before .before .before .loop .at) (c .before .before .before .before .before .before .before .before .before .loop .inv .1) _ (c .before .before .before .before .before .before .before .before .call-at .ensures) _ (c .before .before .before .before .before .before .read .given .1))
+    omega (arith, size, at .inv .2, record-fits _ (at .at) (at .inv .1) _ (r .before .before .call-at .ensures) _ (r .read .given .1))
 
 add-at : tie.Need-add-at Inv-loop μ-loop
 add-at c =
+    let r = c .before .before .before .before .before .before in
+    let at = r .before .before .before .loop in
     let size = ap callSize (c .before .before .before .made .given .1) in
-    omega (arith, size, record-fits _ (c .before .before .before .before .before .before .before .before .before .loop .at) (c .before .before .before .before .before .before .before .before .before .loop .inv .1) _ (c .before .before .before .before .before .before .before .before .call-at .ensures) _ (c .before .before .before .before .before .before .read .given .1))
+    omega (arith, size, record-fits _ (at .at) (at .inv .1) _ (r .before .before .call-at .ensures) _ (r .read .given .1))
 
 loop-less : tie.Need-loop-less Inv-loop μ-loop
 loop-less c =
+    let r = c .before .before .before .before .before .before in
+    let at = r .before .before .before .loop in
     let size = ap callSize (c .before .before .before .made .given .1) in
-    omega (arith, size, record-fits _ (c .before .before .before .before .before .before .before .before .before .loop .at) (c .before .before .before .before .before .before .before .before .before .loop .inv .1) _ (c .before .before .before .before .before .before .before .before .call-at .ensures) _ (c .before .before .before .before .before .before .read .given .1))
+    omega (arith, size, record-fits _ (at .at) (at .inv .1) _ (r .before .before .call-at .ensures) _ (r .read .given .1))
 
 loop-again : tie.Need-loop-again Inv-loop μ-loop
 loop-again c =
@@ -81,8 +87,19 @@ loop-again c =
     let size = ap callSize (k .1) in
     let fits = record-fits _ (at .at) (at .inv .1) _ is _ h in
     elim (c .if1 .came) [
-      | inl w ↦ (omega arith, omega (arith, size, fits), omega (arith, w .5, at .inv .2), λ s u. skip-submitted (at .inv .3 s u) _ is _ h _ (k .0 .0) (w .3 .result) (k .1) (w .0 .taken) (fate-in t _ (w .3 .result) (w .1 .left) (w .3 .ensures)) (w .4 .left) (w .5))
-      | inr w ↦ (omega arith, omega (arith, size, fits), omega (arith, w .1, at .inv .2), λ s u. skip-unknown (at .inv .3 s u) _ is _ h _ (k .0 .0) (k .1) (w .0 .left) (w .1))
+      | inl w ↦
+          let opened = fate-in t _ (w .3 .result) (w .1 .left) (w .3 .ensures) in (
+            omega arith,
+            omega (arith, size, fits),
+            omega (arith, w .5, at .inv .2),
+            λ s u. skip-submitted (at .inv .3 s u) _ is _ h _ (k .0 .0) (w .3 .result) (k .1) (w .0 .taken) opened (w .4 .left) (w .5),
+          )
+      | inr w ↦ (
+        omega arith,
+        omega (arith, size, fits),
+        omega (arith, w .1, at .inv .2),
+        λ s u. skip-unknown (at .inv .3 s u) _ is _ h _ (k .0 .0) (k .1) (w .0 .left) (w .1),
+      )
     ]
 
 enum-known-made-2 : tie.Need-enum-known-made-2 Inv-loop μ-loop
@@ -102,18 +119,24 @@ returns-4 c = (c .before .before .before .before .before .before .before .before
 
 add-refused-2 : tie.Need-add-refused-2 Inv-loop μ-loop
 add-refused-2 c =
+    let r = c .before .before .before .before .before .before in
+    let at = r .before .before .before .loop in
     let size = ap callSize (c .before .before .before .made2 .given .1) in
-    omega (arith, size, c .before .before .before .before .before .before .before .before .before .loop .inv .2, record-fits _ (c .before .before .before .before .before .before .before .before .before .loop .at) (c .before .before .before .before .before .before .before .before .before .loop .inv .1) _ (c .before .before .before .before .before .before .before .before .call-at .ensures) _ (c .before .before .before .before .before .before .read .given .1))
+    omega (arith, size, at .inv .2, record-fits _ (at .at) (at .inv .1) _ (r .before .before .call-at .ensures) _ (r .read .given .1))
 
 add-at-2 : tie.Need-add-at-2 Inv-loop μ-loop
 add-at-2 c =
+    let r = c .before .before .before .before .before .before in
+    let at = r .before .before .before .loop in
     let size = ap callSize (c .before .before .before .made2 .given .1) in
-    omega (arith, size, record-fits _ (c .before .before .before .before .before .before .before .before .before .loop .at) (c .before .before .before .before .before .before .before .before .before .loop .inv .1) _ (c .before .before .before .before .before .before .before .before .call-at .ensures) _ (c .before .before .before .before .before .before .read .given .1))
+    omega (arith, size, record-fits _ (at .at) (at .inv .1) _ (r .before .before .call-at .ensures) _ (r .read .given .1))
 
 loop-less-2 : tie.Need-loop-less-2 Inv-loop μ-loop
 loop-less-2 c =
+    let r = c .before .before .before .before .before .before in
+    let at = r .before .before .before .loop in
     let size = ap callSize (c .before .before .before .made2 .given .1) in
-    omega (arith, size, record-fits _ (c .before .before .before .before .before .before .before .before .before .loop .at) (c .before .before .before .before .before .before .before .before .before .loop .inv .1) _ (c .before .before .before .before .before .before .before .before .call-at .ensures) _ (c .before .before .before .before .before .before .read .given .1))
+    omega (arith, size, record-fits _ (at .at) (at .inv .1) _ (r .before .before .call-at .ensures) _ (r .read .given .1))
 
 loop-again-2 : tie.Need-loop-again-2 Inv-loop μ-loop
 loop-again-2 c =
@@ -125,15 +148,22 @@ loop-again-2 c =
     let size = ap callSize (k .1) in
     let fits = record-fits _ (at .at) (at .inv .1) _ is _ h in
     let shut = read-in 8 (t .closed) (k .0 .0) false (c .before .if4 .left) ∙ not-false _ (c .if5 .left) in
-    (omega arith, omega (arith, size, fits), omega (arith, at .inv .2), λ s u. skip-closed (at .inv .3 s u) _ is _ h _ (k .0 .0) (k .1) shut refl)
+    (
+      omega arith,
+      omega (arith, size, fits),
+      omega (arith, at .inv .2),
+      λ s u. skip-closed (at .inv .3 s u) _ is _ h _ (k .0 .0) (k .1) shut refl,
+    )
 
 enum-told : tie.Need-enum-told Inv-loop μ-loop
 enum-told c = search needs
 
 add-refused-3 : tie.Need-add-refused-3 Inv-loop μ-loop
 add-refused-3 c =
+    let r = c .before .before .before .before in
+    let at = r .before .before .before .loop in
     let size = ap callSize (c .before .enum-told .given .1) in
-    omega (arith, size, c .before .before .before .before .before .before .before .loop .inv .2, record-fits _ (c .before .before .before .before .before .before .before .loop .at) (c .before .before .before .before .before .before .before .loop .inv .1) _ (c .before .before .before .before .before .before .call-at .ensures) _ (c .before .before .before .before .read .given .1))
+    omega (arith, size, at .inv .2, record-fits _ (at .at) (at .inv .1) _ (r .before .before .call-at .ensures) _ (r .read .given .1))
 
 is-idle-requires : tie.Need-is-idle-requires Inv-loop μ-loop
 is-idle-requires c κs = tt
@@ -143,13 +173,17 @@ returns-5 c = (c .before .before .before .before .before .before .before .before
 
 add-at-3 : tie.Need-add-at-3 Inv-loop μ-loop
 add-at-3 c =
+    let r = c .before .before .before .before in
+    let at = r .before .before .before .loop in
     let size = ap callSize (c .before .enum-told .given .1) in
-    omega (arith, size, record-fits _ (c .before .before .before .before .before .before .before .loop .at) (c .before .before .before .before .before .before .before .loop .inv .1) _ (c .before .before .before .before .before .before .call-at .ensures) _ (c .before .before .before .before .read .given .1))
+    omega (arith, size, record-fits _ (at .at) (at .inv .1) _ (r .before .before .call-at .ensures) _ (r .read .given .1))
 
 loop-less-3 : tie.Need-loop-less-3 Inv-loop μ-loop
 loop-less-3 c =
+    let r = c .before .before .before .before in
+    let at = r .before .before .before .loop in
     let size = ap callSize (c .before .enum-told .given .1) in
-    omega (arith, size, record-fits _ (c .before .before .before .before .before .before .before .loop .at) (c .before .before .before .before .before .before .before .loop .inv .1) _ (c .before .before .before .before .before .before .call-at .ensures) _ (c .before .before .before .before .read .given .1))
+    omega (arith, size, record-fits _ (at .at) (at .inv .1) _ (r .before .before .call-at .ensures) _ (r .read .given .1))
 
 loop-again-3 : tie.Need-loop-again-3 Inv-loop μ-loop
 loop-again-3 c =
@@ -161,8 +195,19 @@ loop-again-3 c =
     let size = ap callSize k in
     let fits = record-fits _ (at .at) (at .inv .1) _ is _ h in
     elim (c .if6 .came) [
-      | inl w ↦ (omega arith, omega (arith, size, fits), omega (arith, w .1, at .inv .2), λ s u. skip-unclosed (at .inv .3 s u) _ is _ h _ k (sym told ∙ w .0 .taken) (w .1))
-      | inr w ↦ (omega arith, omega (arith, size, fits), omega (arith, w .3, at .inv .2), λ s u. skip-finished (at .inv .3 s u) _ is _ h _ k (sym told ∙ w .0 .left) (sym (w .1 .ensures) ∙ not-false _ (w .2 .left)) (w .3))
+      | inl w ↦ (
+        omega arith,
+        omega (arith, size, fits),
+        omega (arith, w .1, at .inv .2),
+        λ s u. skip-unclosed (at .inv .3 s u) _ is _ h _ k (sym told ∙ w .0 .taken) (w .1),
+      )
+      | inr w ↦
+          let still = sym (w .1 .ensures) ∙ not-false _ (w .2 .left) in (
+            omega arith,
+            omega (arith, size, fits),
+            omega (arith, w .3, at .inv .2),
+            λ s u. skip-finished (at .inv .3 s u) _ is _ h _ k (sym told ∙ w .0 .left) still (w .3),
+          )
     ]
 
 enum-told-2 : tie.Need-enum-told-2 Inv-loop μ-loop
