@@ -147,8 +147,7 @@ loop-again-2 c =
     let t = c .before .before .before .before .before .before .before .before .before .before .before .before .before .before .before .args .state in
     let size = ap callSize (k .1) in
     let fits = record-fits _ (at .at) (at .inv .1) _ is _ h in
-    let shut = read-in 8 (t .closed) (k .0 .0) false (c .before .if4 .left) ∙ not-false _ (c .if5 .left) in
-    (
+    let shut = read-in 8 (t .closed) (k .0 .0) false (c .before .if4 .left) ∙ not-false _ (c .if5 .left) in (
       omega arith,
       omega (arith, size, fits),
       omega (arith, at .inv .2),
