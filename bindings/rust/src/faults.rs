@@ -146,7 +146,7 @@ fn other(out: &mut fmt::Formatter<'_>, number: u8, at: usize) -> fmt::Result {
 
 impl Error for SheetFault {}
 
-/// Why a call is turned down. The state is as it was before the call.
+/// Why a call, or a whole batch, is turned down. The state is as it was before it.
 ///
 /// More variants will come, as later versions of the library have further
 /// numbers. Until this crate names one, it is [`CallFault::Other`].
@@ -163,6 +163,8 @@ impl Error for SheetFault {}
 #[derive(Clone, Copy, Debug, PartialEq, Eq, Hash)]
 #[non_exhaustive]
 pub enum CallFault {
+    /// 2: an entry of a kind that there is not; a [`Call`](crate::Call) never is one.
+    BadKind,
     /// 9: there is no such event, or the step to close has no event.
     Unknown,
     /// 10: the step is closed already.
@@ -171,6 +173,8 @@ pub enum CallFault {
     NotClosed,
     /// 12: the bytes are not those of a state that hangs together.
     Incoherent,
+    /// 13: more entries than a batch may have.
+    TooLong,
     /// A number that this crate has no name for yet.
     Other(u8),
 }
@@ -186,10 +190,12 @@ impl CallFault {
     /// ```
     pub fn from_number(number: u8) -> CallFault {
         match number {
+            2 => CallFault::BadKind,
             9 => CallFault::Unknown,
             10 => CallFault::AlreadyClosed,
             11 => CallFault::NotClosed,
             12 => CallFault::Incoherent,
+            13 => CallFault::TooLong,
             _ => CallFault::Other(number),
         }
     }
@@ -197,10 +203,12 @@ impl CallFault {
     /// The number that the C interface has for it.
     pub fn number(self) -> u8 {
         match self {
+            CallFault::BadKind => 2,
             CallFault::Unknown => 9,
             CallFault::AlreadyClosed => 10,
             CallFault::NotClosed => 11,
             CallFault::Incoherent => 12,
+            CallFault::TooLong => 13,
             CallFault::Other(number) => number,
         }
     }
@@ -209,12 +217,14 @@ impl CallFault {
 impl fmt::Display for CallFault {
     fn fmt(&self, out: &mut fmt::Formatter<'_>) -> fmt::Result {
         match self {
+            CallFault::BadKind => out.write_str("a kind of entry that there is not"),
             CallFault::Unknown => out.write_str("no such event, or a step without events"),
             CallFault::AlreadyClosed => out.write_str("the step is closed already"),
             CallFault::NotClosed => out.write_str("a step with events is not closed yet"),
             CallFault::Incoherent => {
                 out.write_str("the bytes are not those of a state that hangs together")
             }
+            CallFault::TooLong => out.write_str("more entries than a batch may have"),
             CallFault::Other(number) => write!(out, "turned down by number {number}"),
         }
     }

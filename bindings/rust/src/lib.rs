@@ -2,9 +2,10 @@
 //!
 //! A host opens a [`State`] for each of its plans, hands in events as they are
 //! reported to it, closes steps and winds up; it may store the state's 384 bytes
-//! after each call and go on from them after a restart. [`run`] makes a whole
-//! list of calls on a sheet in one go. What sheets and calls are, byte by byte,
-//! and what each call does is in the repository's README.
+//! after each call and go on from them after a restart. Replies that come together
+//! are handed in together, by [`State::submit_all`]. [`run`] makes a whole list of
+//! calls on a sheet in one go. What sheets and calls are, byte by byte, and what
+//! each call does is in the repository's README.
 //!
 //! ```
 //! use sinewhopa::{Fate, State};
@@ -26,6 +27,7 @@
 #![warn(missing_docs)]
 #![deny(unsafe_code)]
 
+mod batch;
 mod fate;
 mod faults;
 mod layout;
@@ -33,6 +35,7 @@ mod layout;
 pub mod raw;
 mod state;
 
+pub use batch::{Answer, Call};
 pub use fate::Fate;
 pub use faults::{CallFault, SheetFault};
 pub use state::State;
@@ -42,6 +45,9 @@ pub const STATE_LEN: usize = 384;
 
 /// No report is longer.
 pub const LONGEST_REPORT: usize = 320;
+
+/// No batch has more entries.
+pub const LONGEST_BATCH: usize = 64;
 
 /// Runs a list of calls on a sheet and gives the report, which is what the runner
 /// prints. Any bytes may be given as either.

@@ -28,12 +28,37 @@
 //! ```
 
 use crate::STATE_LEN;
+use std::mem::{align_of, size_of};
+
+/// The kind of an entry that hands in an event.
+pub const HAND_IN: u8 = 16;
+
+/// The kind of an entry that closes a step.
+pub const CLOSE_STEP: u8 = 17;
+
+/// An entry of a batch: a call, and the answer that [`submit_all`] writes beside it.
+#[repr(C)]
+#[derive(Clone, Copy, Debug, Default, PartialEq, Eq, Hash)]
+pub struct Entry {
+    /// [`HAND_IN`] or [`CLOSE_STEP`]; an entry of another kind is turned down by 2.
+    pub kind: u8,
+    /// The event to hand in, or the step to close.
+    pub number: u8,
+    /// The answer: 0, or the number by which the entry is turned down.
+    pub refused: u8,
+    /// Of a hand-in that is taken, the event's fate right after this entry; else 0.
+    pub fate: u8,
+}
+
+// As in the header: bytes, and nothing between them.
+const _: () = assert!(size_of::<Entry>() == 4 && align_of::<Entry>() == 1);
 
 extern "C" {
     fn sinewhopa_open(state: *mut u8, sheet: *const u8, sheet_len: usize, at: *mut usize) -> u8;
     fn sinewhopa_submit(state: *mut u8, event: u8) -> u8;
     fn sinewhopa_close_step(state: *mut u8, step: u8) -> u8;
     fn sinewhopa_finish(state: *mut u8) -> u8;
+    fn sinewhopa_submit_all(state: *mut u8, entries: *mut Entry, n: usize) -> u8;
     fn sinewhopa_check(state: *const u8) -> u8;
     fn sinewhopa_report(state: *const u8, refused: usize, out: *mut u8, out_len: usize) -> usize;
     fn sinewhopa_run(
@@ -73,6 +98,33 @@ pub fn close_step(state: &mut [u8; STATE_LEN], step: u8) -> u8 {
 pub fn finish(state: &mut [u8; STATE_LEN]) -> u8 {
     // SAFETY: `state` has the bytes of a state and is borrowed mutably.
     unsafe { sinewhopa_finish(state.as_mut_ptr()) }
+}
+
+/// Makes the calls of a batch in the list's order and writes its answer into each
+/// entry: 0 and, of a hand-in, the event's fate right after it; or 9, 10 or 2, and the
+/// later entries still go ahead. Gives 0; or 12; or else 13 where there are more than
+/// [`LONGEST_BATCH`](crate::LONGEST_BATCH) entries. With 12 and 13 neither the state
+/// nor any entry is written.
+///
+/// ```
+/// use sinewhopa::raw::{self, Entry, CLOSE_STEP, HAND_IN};
+///
+/// let entry = |kind, number| Entry { kind, number, ..Entry::default() };
+/// let mut state = [0; sinewhopa::STATE_LEN];
+/// raw::open(&mut state, &[1, 0, 6, 1, 1, 6, 2, 0, 1, 5]); // event 0 before event 1
+/// let calls = [(HAND_IN, 1), (HAND_IN, 7), (18, 0), (HAND_IN, 0), (CLOSE_STEP, 1)];
+/// let mut batch = calls.map(|(kind, number)| entry(kind, number));
+/// assert_eq!(raw::submit_all(&mut state, &mut batch), 0);
+/// // Held; no such event; no such kind; done; closed.
+/// let answers = batch.map(|entry| (entry.refused, entry.fate));
+/// assert_eq!(answers, [(0, 1), (9, 0), (2, 0), (0, 2), (0, 0)]);
+/// assert_eq!(raw::submit_all(&mut state, &mut [entry(HAND_IN, 0); 65]), 13);
+/// ```
+pub fn submit_all(state: &mut [u8; STATE_LEN], entries: &mut [Entry]) -> u8 {
+    // SAFETY: `state` has the bytes of a state and `entries` its length in entries of
+    // the header's layout; neither is null, and both are borrowed mutably, so that
+    // they do not overlap. Any bytes are an entry.
+    unsafe { sinewhopa_submit_all(state.as_mut_ptr(), entries.as_mut_ptr(), entries.len()) }
 }
 
 /// Gives 0 where the bytes are those of a state that hangs together, else 12.

@@ -1,7 +1,7 @@
 //! A state that a host keeps.
 
 use crate::layout::{self, row};
-use crate::{filled, raw, CallFault, Fate, SheetFault, STATE_LEN};
+use crate::{filled, raw, Answer, Call, CallFault, Fate, SheetFault, LONGEST_BATCH, STATE_LEN};
 use std::fmt;
 
 /// The state of one plan: what its sheet declares, what has become of each event,
@@ -99,6 +99,37 @@ impl State {
     /// ```
     pub fn finish(&mut self) -> Result<(), CallFault> {
         taken(raw::finish(&mut self.bytes))
+    }
+
+    /// Makes the calls of a batch, one after another in the list's order, and gives
+    /// each one's answer: what the single calls would give. One that is turned down
+    /// changes nothing, and the later ones still go ahead. More calls than
+    /// [`LONGEST_BATCH`] are turned down together, and none of them is made; a longer
+    /// list can be handed in by parts.
+    ///
+    /// ```
+    /// use sinewhopa::{Call, CallFault, Fate, State};
+    ///
+    /// let mut state = State::open(&[1, 0, 6, 1, 1, 6, 2, 0, 1, 5])?; // 0 before 1
+    /// let calls = [Call::Submit(1), Call::Submit(7), Call::Submit(0), Call::CloseStep(1)];
+    /// let answers = state.submit_all(&calls)?;
+    /// assert_eq!(answers[0], Ok(Some(Fate::Held))); // it waits for 0 ..
+    /// assert_eq!(answers[1], Err(CallFault::Unknown));
+    /// assert_eq!(answers[2], Ok(Some(Fate::Done)));
+    /// assert_eq!(answers[3], Ok(None));
+    /// assert_eq!(state.fate(1), Some(Fate::Done)); // .. and was done with it
+    /// assert_eq!(state.submit_all(&[Call::Submit(0); 65]), Err(CallFault::TooLong));
+    /// # Ok::<(), Box<dyn std::error::Error>>(())
+    /// ```
+    pub fn submit_all(&mut self, calls: &[Call]) -> Result<Vec<Answer>, CallFault> {
+        // As the library has it; asked here so that no long list is copied.
+        if calls.len() > LONGEST_BATCH {
+            return Err(CallFault::TooLong);
+        }
+        let mut entries: Vec<raw::Entry> = calls.iter().map(|call| call.entry()).collect();
+        taken(raw::submit_all(&mut self.bytes, &mut entries))?;
+        let answered = calls.iter().zip(entries);
+        Ok(answered.map(|(call, entry)| call.answer(entry)).collect())
     }
 
     /// What has become of an event; none where it is not declared.
@@ -270,7 +301,7 @@ impl fmt::Debug for State {
     }
 }
 
-fn taken(number: u8) -> Result<(), CallFault> {
+pub(crate) fn taken(number: u8) -> Result<(), CallFault> {
     match number {
         0 => Ok(()),
         _ => Err(CallFault::from_number(number)),

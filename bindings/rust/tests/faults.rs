@@ -21,10 +21,8 @@ fn every_number_has_a_fault_and_a_fate() {
         let call = CallFault::from_number(number);
         assert_eq!(call.number(), number);
         assert!(!call.to_string().is_empty());
-        assert_eq!(
-            matches!(call, CallFault::Other(_)),
-            !(9..=12).contains(&number)
-        );
+        let named = number == 2 || (9..=13).contains(&number);
+        assert_eq!(matches!(call, CallFault::Other(_)), !named);
         let fate = Fate::from_number(number);
         assert_eq!((fate.number(), fate.is_settled()), (number, number > 1));
         assert_eq!(matches!(fate, Fate::Other(_)), number > 4);

@@ -1,7 +1,9 @@
 //! The numbers here are those of the C header.
 
-use sinewhopa::{raw, CallFault, Fate, SheetFault, State, LONGEST_REPORT, STATE_LEN};
+use sinewhopa::raw::{self, Entry, CLOSE_STEP, HAND_IN};
+use sinewhopa::{CallFault, Fate, SheetFault, State, LONGEST_BATCH, LONGEST_REPORT, STATE_LEN};
 use std::collections::BTreeMap;
+use std::mem::{offset_of, size_of};
 
 const HEADER: &str = include_str!("../../../include/sinewhopa.h");
 
@@ -23,6 +25,9 @@ fn numbers_are_the_headers() {
     let at = 3;
     let rows = [
         ("REPORT_MOST", LONGEST_REPORT),
+        ("BATCH_MOST", LONGEST_BATCH),
+        ("HAND_IN", HAND_IN.into()),
+        ("CLOSE_STEP", CLOSE_STEP.into()),
         ("OPEN", Fate::Open.number().into()),
         ("HELD", Fate::Held.number().into()),
         ("DONE", Fate::Done.number().into()),
@@ -42,37 +47,58 @@ fn numbers_are_the_headers() {
             SheetFault::Unenforceable { at }.number().into(),
         ),
         ("EXTRA", SheetFault::Extra { at }.number().into()),
+        ("BAD_KIND", CallFault::BadKind.number().into()),
         ("UNKNOWN", CallFault::Unknown.number().into()),
         ("ALREADY_CLOSED", CallFault::AlreadyClosed.number().into()),
         ("NOT_CLOSED", CallFault::NotClosed.number().into()),
         ("INCOHERENT", CallFault::Incoherent.number().into()),
+        ("TOO_LONG", CallFault::TooLong.number().into()),
     ];
     for (name, number) in rows {
         assert_eq!(constants.get(name), Some(&number), "{name}");
     }
 }
 
-/// The fields of the header's struct, each with its offset and length.
-fn fields() -> BTreeMap<&'static str, (usize, usize)> {
+/// The fields of a struct of the header, which has so many bytes, each with its
+/// offset and length.
+fn fields(of: &str, bytes: usize) -> BTreeMap<&'static str, (usize, usize)> {
     let mut end = 0;
     let mut fields = BTreeMap::new();
-    let declared = HEADER
-        .lines()
-        .filter_map(|line| line.strip_prefix("    uint8_t "));
-    for line in declared {
+    let (before, _) = HEADER
+        .split_once(&format!("\n}} {of};"))
+        .expect("the struct");
+    let (_, body) = before
+        .rsplit_once("typedef struct {\n")
+        .expect("its fields");
+    for line in body.lines() {
+        let line = line.strip_prefix("    uint8_t ").expect("bytes");
         let (field, _) = line.split_once(';').expect("a field");
         let (name, length) = field.split_once('[').unwrap_or((field, "1]"));
         let length = length.trim_end_matches(']').parse().expect("a length");
         fields.insert(name, (end, length));
         end += length;
     }
-    assert_eq!(end, STATE_LEN);
+    assert_eq!(end, bytes);
     fields
+}
+
+/// An entry has the header's fields, at the header's places.
+#[test]
+fn an_entry_is_the_headers() {
+    let places = [
+        ("kind", offset_of!(Entry, kind)),
+        ("number", offset_of!(Entry, number)),
+        ("refused", offset_of!(Entry, refused)),
+        ("fate", offset_of!(Entry, fate)),
+    ];
+    let places = places.map(|(name, start)| (name, (start, 1)));
+    let fields = fields("sinewhopa_entry", size_of::<Entry>());
+    assert_eq!(fields, BTreeMap::from(places));
 }
 
 /// A field of the state after the calls, at the header's place.
 fn field(state: &State, name: &str) -> Vec<u8> {
-    let (start, length) = fields()[name];
+    let (start, length) = fields("sinewhopa_state", STATE_LEN)[name];
     state.as_bytes()[start..start + length].to_vec()
 }
 
