@@ -4,8 +4,10 @@
 //! `layout` writes the bytes that a state has to have from a sheet and the peer's
 //! state, and `sound` says which bytes are a state that hangs together (10.4 of
 //! the specification); both are written from the header and the specification
-//! alone. `single` compares after every call, `damaged` changes bytes.
+//! alone. `single` compares after every call, `damaged` changes bytes, `brought` has
+//! states that no list may lead to.
 
+pub mod brought;
 pub mod damaged;
 pub mod layout;
 pub mod single;
