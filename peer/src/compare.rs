@@ -136,6 +136,7 @@ impl Tally {
             Cause::NoOrder => &mut self.no_order,
             Cause::WindUp => &mut self.wind_up,
             Cause::Closing => &mut self.lapsed,
+            Cause::Brought => unreachable!("a list starts with nothing settled"),
         }
     }
 

@@ -1,11 +1,15 @@
 //! The benchmark's workloads are what their names say, and a library that
 //! differs is found out before anything is timed.
 
+use peer::bench::batches;
 use peer::bench::kept::Kept;
 use peer::bench::single::{self, Single};
 use peer::bench::table::Row;
 use peer::bench::timing::{measure, Work};
 use peer::bench::workloads::{self, Workload};
+use peer::images::batches::{agree, Batch};
+use peer::images::brought::scheduler;
+use peer::library::raw::{self, Entry};
 use peer::library::State;
 use peer::peer::calls::Call;
 use peer::peer::{trace, Run, Scheduler};
@@ -207,6 +211,39 @@ fn library_agrees_on_lists_made_one_by_one() {
         "a long list: 32,768 calls of all sorts, one by one"
     );
     assert_eq!(kept[3].calls(), 32_768);
+}
+
+/// As long as may be, on full states, and on copies where they change these.
+#[test]
+fn batches_are_made_on_full_states() {
+    for posts in batches::list() {
+        for (image, records) in &posts.posts {
+            let mut peer = scheduler(image).expect("a state");
+            let (events, rules) = (peer.sheet().events(), peer.sheet().rules.len());
+            assert_eq!((events, rules, records.len()), (16, 16, 64));
+            let settled = peer.history().len() == 16;
+            let lent: Vec<Entry> = records.iter().map(batches::entry).collect();
+            let outcome = agree(raw::submit_all, image, Some(&mut peer), &lent);
+            let outcome = outcome.unwrap_or_else(|difference| panic!("{difference}"));
+            let changed = outcome.image != *image;
+            assert_eq!((settled, changed), (!posts.on_copies, posts.on_copies));
+        }
+        let copied = posts.names.map(|name| name.ends_with("(on a copy)"));
+        assert_eq!(copied, [posts.on_copies; 2]);
+    }
+}
+
+/// A batch that stops before its last entry is found out in each.
+#[test]
+fn a_wrong_batch_is_found() {
+    let wrong: Batch = |image, entries| {
+        let last = entries.len() - 1;
+        raw::submit_all(image, &mut entries[..last])
+    };
+    for posts in batches::list() {
+        assert!(posts.works(raw::submit_all).is_ok());
+        assert!(posts.works(wrong).is_err());
+    }
 }
 
 fn spin(count: u32) {

@@ -5,13 +5,12 @@
 mod plain;
 
 use peer::compare::{hex, SEED};
+use peer::images::brought::brought;
 use peer::images::damaged::LIBRARY;
 use peer::images::layout::*;
-use peer::images::sound::is_sound;
 use peer::library::raw;
 use peer::peer::calls::Call;
-use peer::peer::Sheet;
-use peer::random::{sheet, Random};
+use peer::random::Random;
 use plain::{Fate, Plain};
 
 const STATES: usize = 30_000;
@@ -27,55 +26,6 @@ const FATES: [Fate; 5] = [
     Fate::Refused,
     Fate::Lapsed,
 ];
-const DELAYABLE: u8 = 4;
-/// Delayable or forcible.
-const ACTIVE: u8 = 5;
-
-/// Any fates, marks and history over a random sheet, where that is a state that
-/// hangs together, of two events or more, and small enough.
-fn brought(random: &mut Random) -> Option<(Vec<u8>, Image)> {
-    let made = sheet(random).bytes;
-    Sheet::read(&made).ok()?;
-    let mut image = first(&made);
-    let chance = random.pick(&[0, 10, 50]);
-    for step in 0..8 {
-        image[CLOSED + step] = u8::from(random.percent(chance));
-    }
-    for rule in 0..usize::from(image[RULES]) {
-        image[BROKEN + rule] = u8::from(random.percent(chance));
-    }
-    put_fates(random, &mut image);
-    (image[EVENTS] > 1 && active(&image) <= MOST && is_sound(&image)).then_some((made, image))
-}
-
-fn put_fates(random: &mut Random, image: &mut Image) {
-    let mut events: Vec<usize> = (0..usize::from(image[EVENTS])).collect();
-    random.shuffle(&mut events);
-    for event in events {
-        let closed = image[CLOSED + usize::from(image[STEP + event])] == 1;
-        let fate = match random.pick(&[0, 0, 1, 1, 1, 2, 2, 3, 4]) {
-            1 if image[ATTRIBUTES + event] & DELAYABLE == 0 => 2,
-            0 if closed => 4,
-            fate => fate,
-        };
-        image[FATE + event] = fate;
-        if fate > 1 {
-            let line = usize::from(image[LINES]);
-            image[LINE_EVENT + line] = event as u8;
-            image[LINE_FATE + line] = fate;
-            image[LINES] += 1;
-        }
-    }
-}
-
-/// The unsettled events that an order could contain, now or later.
-fn active(image: &Image) -> usize {
-    let unsettled = |event: &usize| image[FATE + event] <= 1;
-    let events = (0..usize::from(image[EVENTS])).filter(unsettled);
-    events
-        .filter(|event| image[ATTRIBUTES + event] & ACTIVE != 0)
-        .count()
-}
 
 fn plain_of(sheet: &[u8], image: &Image) -> Plain {
     let mut plain = Plain::read(sheet);
@@ -176,9 +126,9 @@ fn calls_on_brought_states_agree() {
     let mut tally = Tally::default();
     let mut states = 0;
     while states < STATES {
-        if let Some((sheet, image)) = brought(&mut random) {
+        if let Some((made, image)) = brought(&mut random, MOST) {
             assert_eq!(raw::check(&image), 0, "{}", hex(&image));
-            agree(&mut random, &sheet, &image, &mut tally);
+            agree(&mut random, &made.bytes, &image, &mut tally);
             states += 1;
         }
     }

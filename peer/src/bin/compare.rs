@@ -1,9 +1,10 @@
 //! `compare SEED COUNT`: the library against the peer on random pairs, as lists and
-//! as single calls on a kept state; then damaged copies of as many states.
+//! as single calls on a kept state; then damaged copies of as many states; then as many
+//! batches.
 
 use peer::compare::{compare, COUNT, SEED};
-use peer::images::{damaged, single};
-use peer::library::{self, State};
+use peer::images::{batches, damaged, single};
+use peer::library::{self, raw, State};
 use std::process::ExitCode;
 
 /// Prints what was met with.
@@ -14,6 +15,8 @@ fn run(seed: u64, count: usize) -> Result<(), String> {
     println!("single calls: {calls:#?}");
     let damage = damaged::compare(seed, count, &damaged::LIBRARY)?;
     println!("damaged states: {damage:#?}");
+    let batches = batches::compare(seed, count, raw::submit_all)?;
+    println!("batches: {batches:#?}");
     println!("{count} pairs, 0 differences");
     Ok(())
 }

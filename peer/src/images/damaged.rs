@@ -15,7 +15,7 @@ const COPIES: usize = 6;
 /// The calls that are made on each copy.
 const CALLS: usize = 6;
 const FILL: u8 = 0xa5;
-const INCOHERENT: u8 = 12;
+pub const INCOHERENT: u8 = 12;
 
 /// What is called on the bytes.
 pub struct Functions {
@@ -70,7 +70,7 @@ fn any_state(random: &mut Random, made: &Made) -> Option<State> {
 }
 
 /// A copy with one byte changed, or a few, and their places.
-fn damaged(random: &mut Random, image: &Image) -> (Image, Vec<usize>) {
+pub fn damaged(random: &mut Random, image: &Image) -> (Image, Vec<usize>) {
     let mut copy = *image;
     let count = random.pick(&[1, 1, 1, 1, 2, 2, 3, 6]);
     let mut places = Vec::new();

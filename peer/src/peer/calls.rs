@@ -17,7 +17,8 @@ pub enum Answer {
     Closed,
     Finished,
     TurnedDown(Reason),
-    /// Another kind or a cut record. The reading ends there.
+    /// Another kind or a cut record. The reading of a list ends there; a batch goes
+    /// on after it.
     Unreadable,
 }
 

@@ -5,6 +5,7 @@
 //! order comes from breadth-first walks over sets of done events, held events
 //! first.
 
+pub mod batch;
 pub mod calls;
 pub mod report;
 pub mod rules;

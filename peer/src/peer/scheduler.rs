@@ -30,6 +30,8 @@ pub enum Cause {
     WindUp,
     /// Lapsed.
     Closing,
+    /// Settled in the state that was brought.
+    Brought,
 }
 
 #[derive(Clone, Copy, Debug, PartialEq, Eq)]
@@ -40,7 +42,7 @@ pub struct Line {
 }
 
 /// Why a call is turned down. Number 12 cannot arise here: states only come
-/// from admitted sheets and calls.
+/// from admitted sheets and calls, or are brought where they hang together.
 #[derive(Clone, Copy, Debug, PartialEq, Eq)]
 pub enum Reason {
     /// 9: the event or the step is not on the sheet.
@@ -141,6 +143,21 @@ impl Scheduler {
         }
     }
 
+    /// A state that hangs together and was not led to by calls, with the settled
+    /// events in the order of its history.
+    pub fn bring(sheet: Sheet, state: State, settled: &[u8]) -> Scheduler {
+        let line = |event: &u8| Line {
+            event: *event,
+            fate: state.fate(*event),
+            cause: Cause::Brought,
+        };
+        Scheduler {
+            state,
+            history: settled.iter().map(line).collect(),
+            ..Scheduler::new(sheet)
+        }
+    }
+
     pub fn sheet(&self) -> &Sheet {
         &self.sheet
     }
@@ -155,6 +172,14 @@ impl Scheduler {
 
     pub fn met(&self) -> &Met {
         &self.met
+    }
+
+    /// Whether settling would do nothing. It is so after any list; a state that is
+    /// brought may have something to settle.
+    pub fn is_at_rest(&self) -> bool {
+        let mut after = self.clone();
+        after.settle();
+        after.state == self.state
     }
 
     /// Hands in an event and gives its fate. One that is not open is accepted:

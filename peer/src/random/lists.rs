@@ -79,7 +79,7 @@ pub fn hostile_list(random: &mut Random, made: &Made) -> Vec<u8> {
 }
 
 /// A hand-in, a closing (`closing` per cent) or a winding up.
-fn one_call(random: &mut Random, made: &Made, closing: u64) -> Vec<u8> {
+pub(super) fn one_call(random: &mut Random, made: &Made, closing: u64) -> Vec<u8> {
     if random.percent(closing) {
         return if made.steps.is_empty() || random.percent(10) {
             vec![17, random.pick(&[0, 3, 7, 8, 9, 15, 16, 255])]
@@ -99,7 +99,7 @@ fn one_call(random: &mut Random, made: &Made, closing: u64) -> Vec<u8> {
 }
 
 /// Most events, each handed in once, in any order.
-fn all_events(random: &mut Random, made: &Made) -> Vec<u8> {
+pub(super) fn all_events(random: &mut Random, made: &Made) -> Vec<u8> {
     let mut events: Vec<u8> = (0..made.events as u8).collect();
     if random.percent(80) {
         random.shuffle(&mut events);

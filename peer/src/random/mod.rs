@@ -1,10 +1,12 @@
-//! Random sheets and lists of calls.
+//! Random sheets, lists of calls and batches.
 
+mod batches;
 mod damage;
 mod lists;
 mod shapes;
 mod sheets;
 
+pub use batches::{batch, batch_length, replies};
 pub use lists::{any_call, calls, hostile_list, mixed_list, single_calls};
 pub use shapes::hostile_sheet;
 pub use sheets::{admitted_sheet, sheet, Made};
