@@ -15,12 +15,13 @@ pub enum SheetFault {
     Extra,
 }
 
-// Why a call is turned down, in the order of the numbers 9 to 12.
+// Why a call is turned down, in the order of the numbers 9 to 13; the last is a batch's alone.
 pub enum CallFault {
     Unknown,
     AlreadyClosed,
     NotClosed,
     Incoherent,
+    TooLong,
 }
 
 // What a call answers: a hand-in the event's fate, the others that they were made.
@@ -66,6 +67,7 @@ pub fn call_fault_number(fault: CallFault) -> usize
         CallFault::AlreadyClosed => 10,
         CallFault::NotClosed => 11,
         CallFault::Incoherent => 12,
+        CallFault::TooLong => 13,
     }
 }
 

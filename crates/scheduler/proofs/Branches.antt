@@ -13,7 +13,7 @@ use Rattle.plan.specs.Fates.{isOpen, isHeld}
 use Rattle.plan.specs.Faults.{firstFault}
 use Rattle.scheduler.specs.Orders.{chosen, doAll}
 use Rattle.scheduler.specs.Calls.{settleOnce, settleUpTo, settle, doAlone, decide, submit, lapse, refuseHeld}
-use Rattle.scheduler.specs.Answers.{callRows, turnsDown, callFault, accept, call}
+use Rattle.scheduler.specs.Answers.{callRows, turnsDown, callFault, accept, takeCall, call}
 
 -- settling up to a number of turns
 pub upTo-none : (n : ℕ) (s : State) → settleOnce s ≡ none → settleUpTo (suc n) s ≡ s
@@ -94,6 +94,16 @@ turns-some s c f h = rw (h, turnsDown)
 pub turns-none : (s : State) (c : Call) → firstFault (callRows s c) ≡ none → turnsDown s c ≡ false
 unfolding turnsDown
 turns-none s c h = rw (h, turnsDown)
+
+pub take-fault : (s : State) (c : Call) (f : CallFault)
+    → firstFault (callRows s c) ≡ some f
+    → takeCall s c ≡ record { answer = TurnedDown f; state = s }
+unfolding takeCall
+take-fault s c f h = rw (h, takeCall)
+
+pub take-accept : (s : State) (c : Call) → firstFault (callRows s c) ≡ none → takeCall s c ≡ accept s c
+unfolding takeCall
+take-accept s c h = rw (h, takeCall)
 
 -- a call turned down, and one that is taken
 pub call-fault : (s : State) (c : Call) (f : CallFault)

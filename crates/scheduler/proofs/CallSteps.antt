@@ -22,14 +22,14 @@ use Rattle.scheduler.specs.Orders.{chosen, doAll, foundOrder}
 use Rattle.scheduler.specs.Calls.{settle, breakIf, recordBroken, doAlone, decide, submit, lapse, closeStep, finish}
 use Rattle.plan.specs.Faults.{firstFault}
 use Rattle.scheduler.specs.Coherent.{coherent}
-use Rattle.scheduler.specs.Answers.{unclosedAt, callRows, turnsDown, callFault, idle, accept, turnedDownBy, call}
+use Rattle.scheduler.specs.Answers.{unclosedAt, callRows, turnsDown, callFault, idle, accept, turnedDownBy, takeCall, call}
 use Rattle.scheduler.specs.Internal.Turned.{lapseIf}
 use Rattle.plan.proofs.Arrays.{read-in}
 use Rattle.plan.proofs.Tests.{clash, any-false}
 use Rattle.scheduler.proofs.Laws.{fate-past}
 use Rattle.plan.proofs.Tables.{row-hit, row-miss, rows-none}
 use Rattle.scheduler.proofs.SettleLoops.{order-found, order-missing, finish-unheld}
-use Rattle.scheduler.proofs.Branches.{decide-order, decide-refuse, decide-alone, submit-same, submit-delayed, submit-decided, lapse-yes, lapse-no, turns-some, turns-none, call-fault, call-accept}
+use Rattle.scheduler.proofs.Branches.{decide-order, decide-refuse, decide-alone, submit-same, submit-delayed, submit-decided, lapse-yes, lapse-no, turns-some, turns-none, take-fault, take-accept, call-fault, call-accept}
 
 -- what a test says, negated in the code
 module _ (is b : Bool) (same : is ≡ b) where
@@ -113,17 +113,26 @@ module _ (s : State) (c : Call) where
   unfolding callFault
   call-incoherent h = sym (call-fault s c Incoherent (row-hit (not (coherent s)) Incoherent (callRows s c) (ap not h)))
 
-  -- then the call's own rows
+  -- its own rows: one applies, or none
+  pub take-refused : (f : CallFault) → firstFault (callRows s c) ≡ some f → turnedDownBy f s ≡ takeCall s c
+  take-refused f r = sym (take-fault s c f r)
+
+  pub take-accepted : (r : Reply) → firstFault (callRows s c) ≡ none → r ≡ accept s c → r ≡ takeCall s c
+  take-accepted r none-is same = same ∙ sym (take-accept s c none-is)
+
+  -- where number 12 does not apply
   module _ (h : coherent s ≡ true) where
     rows : callFault s c ≡ firstFault (callRows s c)
     unfolding callFault
     rows = row-miss (not (coherent s)) Incoherent (callRows s c) (ap not h)
 
-    pub call-refused : (f : CallFault) → firstFault (callRows s c) ≡ some f → turnedDownBy f s ≡ call s c
-    call-refused f r = sym (call-fault s c f (rows ∙ r))
-
-    pub call-accepted : (r : Reply) → firstFault (callRows s c) ≡ none → r ≡ accept s c → r ≡ call s c
-    call-accepted r none-is same = same ∙ sym (call-accept s c (rows ∙ none-is))
+    -- number 12 tested, the rest of it is the call
+    pub take-call : takeCall s c ≡ call s c
+    take-call = go (firstFault (callRows s c)) refl
+      where
+        go : (q : Option CallFault) → firstFault (callRows s c) ≡ q → takeCall s c ≡ call s c
+        go (some f) r = take-fault s c f r ∙ sym (call-fault s c f (rows ∙ r))
+        go none r = take-accept s c r ∙ sym (call-accept s c (rows ∙ r))
 
     -- as `turnsDown` tells it
     pub turned-down : turnsDown s c ≡ true → (f : CallFault) × (callFault s c ≡ some f)

@@ -42,5 +42,9 @@ idle s Finish = not (anyBelow (eventCount (s .plan)) (λ e. isHeld (fateOf s e))
 abbrev pub turnedDownBy : CallFault → State → Reply
 turnedDownBy f s = record { answer = TurnedDown f; state = s }
 
+-- a call on a state that passes number 12: turned down by the first of its own rows that applies, or taken (9.1, 10.2)
+unfoldable pub takeCall : State → Call → Reply
+takeCall s c = elim (firstFault (callRows s c)) [ some f ↦ turnedDownBy f s | none ↦ accept s c ]
+
 unfoldable pub call : State → Call → Reply
 call s c = elim (callFault s c) [ some f ↦ turnedDownBy f s | none ↦ accept s c ]

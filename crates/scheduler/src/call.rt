@@ -23,7 +23,7 @@ ghost use Rattle.plan.specs.Fates.{isHeld};
 ghost use Rattle.plan.specs.Plans.{eventCount};
 ghost use Rattle.scheduler.specs.State.{fateOf, settleAs};
 ghost use Rattle.scheduler.specs.Calls.{settle, breakIf, doAlone, decide, submit, lapse, closeStep, refuseHeld, finish};
-ghost use Rattle.scheduler.specs.Answers.{unclosedAt, turnsDown, idle, accept, turnedDownBy, call};
+ghost use Rattle.scheduler.specs.Answers.{unclosedAt, turnsDown, idle, accept, turnedDownBy, takeCall, call};
 ghost use Rattle.scheduler.specs.Internal.Turned.{turnOf};
 
 impl State {
@@ -31,48 +31,20 @@ impl State {
     pub fn submit(self, event: u8) -> Reply
         ensures { λ r. ⌜ r ≡ call self (Submit event) ⌝ }
     {
-        let plan = self.plan;
         if !self.is_coherent() {
             return self.turn_down(CallFault::Incoherent);
         }
-        if plan.event_count <= event {
-            return self.turn_down(CallFault::Unknown);
-        }
-        let state = self.after_submit(event);
-        let standings = state.standings;
-        let mut fate = Fate::Open;
-        if event < 16 {
-            let standing = standings[event as usize];
-            fate = standing.fate;
-        }
-        Reply {
-            answer: Answer::Is(fate),
-            state,
-        }
+        self.take_submit(event)
     }
 
     // Close a step.
     pub fn close_step(self, step: u8) -> Reply
         ensures { λ r. ⌜ r ≡ call self (Close step) ⌝ }
     {
-        let plan = self.plan;
-        let events = plan.events;
-        let closed = self.closed;
         if !self.is_coherent() {
             return self.turn_down(CallFault::Incoherent);
         }
-        if !has_event(events, plan.event_count, step) {
-            return self.turn_down(CallFault::Unknown);
-        }
-        if step < 8 {
-            if closed[step as usize] {
-                return self.turn_down(CallFault::AlreadyClosed);
-            }
-        }
-        Reply {
-            answer: Answer::Made,
-            state: self.after_close(step),
-        }
+        self.take_close(step)
     }
 
     // Wind up.
@@ -82,13 +54,7 @@ impl State {
         if !self.is_coherent() {
             return self.turn_down(CallFault::Incoherent);
         }
-        if self.has_unclosed() {
-            return self.turn_down(CallFault::NotClosed);
-        }
-        Reply {
-            answer: Answer::Made,
-            state: self.after_finish(),
-        }
+        self.take_finish()
     }
 
     // Any call.
@@ -99,6 +65,17 @@ impl State {
             Call::Submit(event) => self.submit(event),
             Call::Close(step) => self.close_step(step),
             Call::Finish => self.finish(),
+        }
+    }
+
+    // A call where the state hangs together: what is left of it once number 12 is tested.
+    pub fn take_call(self, made: Call) -> Reply
+        ensures { λ r. ⌜ r ≡ takeCall self made ⌝ }
+    {
+        match made {
+            Call::Submit(event) => self.take_submit(event),
+            Call::Close(step) => self.take_close(step),
+            Call::Finish => self.take_finish(),
         }
     }
 
@@ -152,6 +129,61 @@ impl State {
             Call::Submit(event) => self.after_submit(event),
             Call::Close(step) => self.after_close(step),
             Call::Finish => self.after_finish(),
+        }
+    }
+
+    // A hand-in, number 12 tested.
+    fn take_submit(self, event: u8) -> Reply
+        ensures { λ r. ⌜ r ≡ takeCall self (Submit event) ⌝ }
+    {
+        let plan = self.plan;
+        if plan.event_count <= event {
+            return self.turn_down(CallFault::Unknown);
+        }
+        let state = self.after_submit(event);
+        let standings = state.standings;
+        let mut fate = Fate::Open;
+        if event < 16 {
+            let standing = standings[event as usize];
+            fate = standing.fate;
+        }
+        Reply {
+            answer: Answer::Is(fate),
+            state,
+        }
+    }
+
+    // A closing, number 12 tested.
+    fn take_close(self, step: u8) -> Reply
+        ensures { λ r. ⌜ r ≡ takeCall self (Close step) ⌝ }
+    {
+        let plan = self.plan;
+        let events = plan.events;
+        let closed = self.closed;
+        if !has_event(events, plan.event_count, step) {
+            return self.turn_down(CallFault::Unknown);
+        }
+        if step < 8 {
+            if closed[step as usize] {
+                return self.turn_down(CallFault::AlreadyClosed);
+            }
+        }
+        Reply {
+            answer: Answer::Made,
+            state: self.after_close(step),
+        }
+    }
+
+    // A winding up, number 12 tested.
+    fn take_finish(self) -> Reply
+        ensures { λ r. ⌜ r ≡ takeCall self Finish ⌝ }
+    {
+        if self.has_unclosed() {
+            return self.turn_down(CallFault::NotClosed);
+        }
+        Reply {
+            answer: Answer::Made,
+            state: self.after_finish(),
         }
     }
 

@@ -1,5 +1,6 @@
 // The static library: what include/sinewhopa.h declares. Here the run of a whole list; in state.rt single calls on a
-// state that the host keeps.
+// state that the host keeps, in batches.rt several together.
+pub mod batches;
 pub mod state;
 
 ghost use mathlib.Core.Path.{_≡_};

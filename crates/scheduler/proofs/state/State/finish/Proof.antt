@@ -1,7 +1,6 @@
 -- `State::finish` meets its contract.
-use mathlib.Core.Path.{sym, _∙_}
-use Rattle.scheduler.specs.Prelude.{Finish, NotClosed}
-use Rattle.scheduler.proofs.CallSteps.{says-no, says-yes, call-incoherent, call-refused, call-accepted, finish-unclosed, finish-closed, finish-reply}
+use mathlib.Core.Path.{_∙_}
+use Rattle.scheduler.proofs.CallSteps.{says-no, says-yes, call-incoherent, take-call}
 use borrow.Author.Needs.{needs}
 use Rattle.scheduler.proofs.state.State.finish.Statement.{statement}
 use Rattle.scheduler.proofs.state.State.finish.Tie as tie
@@ -17,42 +16,14 @@ returns c =
     c .turn-down .ensures
     ∙ call-incoherent _ _ (says-no _ _ (c .before .before .is-coherent .ensures) (c .before .if1 .taken))
 
-has-unclosed-requires : tie.Need-has-unclosed-requires
-has-unclosed-requires c κs = search needs
-
-turn-down-requires-2 : tie.Need-turn-down-requires-2
-turn-down-requires-2 c κs = search needs
+take-finish-requires : tie.Need-take-finish-requires
+take-finish-requires c κs = search needs
 
 returns-2 : tie.Need-returns-2
 returns-2 c =
-    let a = c .before .before .before .before .before .args in
-    let hangs = says-yes _ _ (c .before .before .before .before .is-coherent .ensures) (c .before .before .before .if1 .left) in
-    c .turn-down2 .ensures
-    ∙ call-refused (a .self) Finish hangs NotClosed (finish-unclosed (a .self) (sym (c .before .before .has-unclosed .ensures) ∙ c .before .if2 .taken))
-
-after-finish-requires : tie.Need-after-finish-requires
-after-finish-requires c κs = search needs
-
-returns-3 : tie.Need-returns-3
-returns-3 c =
-    let a = c .before .before .before .before .before .args in
-    call-accepted
-    (a .self)
-    Finish
-    (says-yes _ _ (c .before .before .before .before .is-coherent .ensures) (c .before .before .before .if1 .left))
-    _
-    (finish-closed (a .self) (sym (c .before .before .has-unclosed .ensures) ∙ c .before .if2 .left))
-    (finish-reply (a .self) _ (c .after-finish .ensures))
+    c .take-finish .ensures
+    ∙ take-call _ _ (says-yes _ _ (c .before .before .is-coherent .ensures) (c .before .if1 .left))
 
 pub finish-spec : {M : Type 1} → statement M
 finish-spec =
-    tie.close
-    (tie.spec
-    is-coherent-requires
-    turn-down-requires
-    returns
-    has-unclosed-requires
-    turn-down-requires-2
-    returns-2
-    after-finish-requires
-    returns-3)
+    tie.close (tie.spec is-coherent-requires turn-down-requires returns take-finish-requires returns-2)

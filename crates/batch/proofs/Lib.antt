@@ -1,0 +1,4 @@
+-- The lemmas that the functions' proofs cite, the theorems on batches, and rows by computation.
+pub mod EntryTurns
+pub mod BatchLoop
+pub mod KeptBatches

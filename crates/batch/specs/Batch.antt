@@ -1,0 +1,66 @@
+-- A batch: the calls that its entries ask for, what each entry carries afterwards, and when the whole is turned down.
+use Prim.Native.Nat.{ℕ}
+use mathlib.Core.Bool.{Bool, true, false, not}
+use mathlib.Core.List.{List, [], _∷_}
+use mathlib.Core.Option.{Option, none, some}
+use lib.Dec.{eqb, ltb}
+use lib.ListN.{length}
+use Rattle.batch.specs.Types.{Call, Submit, Close, CallFault, Incoherent, TooLong, Answer, Made, FateAnswered, State, Reply, BatchEntry}
+use Rattle.plan.specs.Fates.{fateNumber}
+use Rattle.plan.specs.Faults.{answerNumber, answerFate, firstFault}
+use Rattle.scheduler.specs.Coherent.{coherent}
+use Rattle.scheduler.specs.Answers.{turnedDownBy, call}
+use Rattle.scheduler.specs.Lists.{scheduler, after}
+
+-- the call that an entry asks for, by its kind, as in the call records; none for another kind (9.11)
+unfoldable pub askedBy : BatchEntry → Option Call
+askedBy e = elim (eqb (e .kind) 16) [
+  | true ↦ some (Submit (e .number))
+  | false ↦ elim (eqb (e .kind) 17) [ true ↦ some (Close (e .number)) | false ↦ none ]
+]
+
+-- the calls of a batch, in its order (9.12)
+unfoldable pub callsOf : List BatchEntry → List Call
+callsOf [] = []
+callsOf (e ∷ es) = elim (askedBy e) [ some c ↦ c ∷ callsOf es | none ↦ callsOf es ]
+
+-- an entry with an answer in it: its kind and its number stay (9.13)
+abbrev pub carrying : BatchEntry → ℕ → ℕ → BatchEntry
+carrying e n f = record { kind = e .kind; number = e .number; refused = n; fate = f }
+
+-- the number of the fate that an answer gives, and 0 where it gives none (9.13)
+abbrev pub fateCarried : FateAnswered → ℕ
+fateCarried x = elim x [ FateAnswered.Is f ↦ fateNumber f | FateAnswered.Nothing ↦ 0 ]
+
+-- an entry with the answer of its single call (9.13)
+abbrev pub carries : BatchEntry → Answer → BatchEntry
+carries e a = carrying e (answerNumber a) (fateCarried (answerFate a))
+
+-- what an entry carries that has its turn on a state; one that asks for no call carries 2, as a sheet's record of a kind
+-- that there is not (9.13)
+unfoldable pub answered : State → BatchEntry → BatchEntry
+answered s e = elim (askedBy e) [ some c ↦ carries e (call s c .answer) | none ↦ carrying e 2 0 ]
+
+-- the state after its turn (9.12)
+unfoldable pub afterEntry : State → BatchEntry → State
+afterEntry s e = elim (askedBy e) [ some c ↦ call s c .state | none ↦ s ]
+
+-- the entries one after another, each on the state that the one before it left (9.12, 9.13)
+unfoldable pub answers : State → List BatchEntry → List BatchEntry
+answers s [] = []
+answers s (e ∷ es) = answered s e ∷ answers (afterEntry s e) es
+
+-- why a batch of n entries is turned down, whole: number 12, then 13 for more than 64 (10.7)
+unfoldable pub batchFault : State → ℕ → Option CallFault
+batchFault s n = firstFault ((not (coherent s), Incoherent) ∷ (ltb 64 n, TooLong) ∷ [])
+
+-- what a batch gives: its answer, and the state after it, that of the list of its calls (9.12, 10.7)
+unfoldable pub batchReply : State → List BatchEntry → Reply
+batchReply s es = elim (batchFault s (length es)) [
+  | some f ↦ turnedDownBy f s
+  | none ↦ record { answer = Made; state = after scheduler s (callsOf es) }
+]
+
+-- the entries after it; those of a batch turned down stay as they were (9.13, 10.7)
+unfoldable pub batchEntries : State → List BatchEntry → List BatchEntry
+batchEntries s es = elim (batchFault s (length es)) [ some f ↦ es | none ↦ answers s es ]

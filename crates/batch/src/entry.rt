@@ -1,0 +1,90 @@
+// An entry of a batch, and its turn: the single call that it asks for, with the answer written into it.
+use plan::answer::Answer;
+use plan::answer::FateAnswered;
+use plan::answer::answer_fate;
+use plan::answer::answer_number;
+use plan::calls::Call;
+use plan::fate::fate_number;
+use scheduler::state::State;
+ghost use mathlib.Core.Path.{_≡_};
+ghost use Rattle.plan.specs.Faults.{answerFate};
+ghost use Rattle.scheduler.specs.Answers.{takeCall};
+ghost use Rattle.batch.specs.Batch.{carrying, carries, fateCarried};
+ghost use Rattle.batch.specs.Internal.Turns.{single, turn};
+
+// A hand-in (kind 16) or a closing (kind 17) with its number, and its answer: why it was turned down, or 0, and the fate
+// of an event that was handed in (9.11, 9.13).
+#[repr(C)]
+pub struct BatchEntry {
+    pub kind: u8,
+    pub number: u8,
+    pub refused: u8,
+    pub fate: u8,
+}
+
+// The state after an entry's turn, and the entry with its answer.
+pub struct Answered {
+    pub state: State,
+    pub entry: BatchEntry,
+}
+
+// An entry's turn. The batch has tested number 12, and a state that passes it still does after any call, so the turns
+// do not test it.
+pub fn take_turn(state: State, entry: BatchEntry) -> Answered
+    ensures { λ r. ⌜ r ≡ turn state entry ⌝ }
+{
+    if entry.kind == 16 {
+        return make_call(state, entry, Call::Submit(entry.number));
+    }
+    if entry.kind == 17 {
+        return make_call(state, entry, Call::Close(entry.number));
+    }
+    Answered {
+        state,
+        entry: carry(entry, 2, 0),
+    }
+}
+
+// The single call that an entry asks for.
+fn make_call(state: State, entry: BatchEntry, made: Call) -> Answered
+    ensures { λ r. ⌜ r ≡ single entry (takeCall state made) ⌝ }
+{
+    let reply = state.take_call(made);
+    let answer = reply.answer;
+    let next = reply.state;
+    Answered {
+        state: next,
+        entry: carry_answer(entry, answer),
+    }
+}
+
+// The entry with its call's answer in it.
+fn carry_answer(entry: BatchEntry, answer: Answer) -> BatchEntry
+    ensures { λ r. ⌜ r ≡ carries entry answer ⌝ }
+{
+    let refused = answer_number(answer) as u8;
+    carry(entry, refused, carried_fate(answer))
+}
+
+// The number of the fate that an answer gives; 0 where it gives none.
+fn carried_fate(answer: Answer) -> u8
+    ensures { λ r. ⌜ r ≡ fateCarried (answerFate answer) ⌝ }
+{
+    let told = answer_fate(answer);
+    match told {
+        FateAnswered::Is(fate) => fate_number(fate),
+        FateAnswered::Nothing => 0,
+    }
+}
+
+// The entry with these in it; its kind and its number stay.
+fn carry(entry: BatchEntry, refused: u8, fate: u8) -> BatchEntry
+    ensures { λ r. ⌜ r ≡ carrying entry refused fate ⌝ }
+{
+    BatchEntry {
+        kind: entry.kind,
+        number: entry.number,
+        refused,
+        fate,
+    }
+}

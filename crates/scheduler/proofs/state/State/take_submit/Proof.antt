@@ -1,0 +1,47 @@
+-- `State::take_submit` meets its contract.
+use borrow.Author.Needs.{needs}
+use mathlib.Core.Path.{sym, _∙_, ap}
+use Rattle.scheduler.specs.Prelude.{Standing, Submit, Unknown}
+use Rattle.plan.specs.Fates.{blankStanding}
+use Rattle.plan.proofs.Arrays.{read-in}
+use Rattle.scheduler.proofs.Laws.{fate-past}
+use Rattle.scheduler.proofs.CallSteps.{take-refused, take-accepted, submit-unknown, submit-known, submit-reply}
+use Rattle.scheduler.proofs.state.State.take_submit.Statement.{statement}
+use Rattle.scheduler.proofs.state.State.take_submit.Tie as tie
+
+turn-down-requires : tie.Need-turn-down-requires
+turn-down-requires c κs = search needs
+
+returns : tie.Need-returns
+returns c =
+    let a = c .before .before .before .before .args in
+    c .turn-down .ensures ∙ take-refused (a .self) (Submit (a .event)) Unknown (submit-unknown (a .self) (a .event) (c .before .if1 .taken))
+
+after-submit-requires : tie.Need-after-submit-requires
+after-submit-requires c κs = search needs
+
+array-copy-out-standing : tie.Need-array-copy-out-standing
+array-copy-out-standing c = search needs
+
+returns-2 : tie.Need-returns-2
+returns-2 c =
+    let made = c .before .before .before in
+    let a = made .before .before .before .before .args in
+    let t = made .after-submit .result in
+    take-accepted (a .self) (Submit (a .event)) _
+    (submit-known (a .self) (a .event) (made .before .if1 .left))
+    (submit-reply (a .self) (a .event) _ _ (made .after-submit .ensures) (sym (ap (λ (v : Standing). v .fate) (read-in 16 (t .standings) (a .event) blankStanding (c .before .if2 .taken)))))
+
+returns-3 : tie.Need-returns-3
+returns-3 c =
+    let made = c .before .before in
+    let a = made .before .before .before .before .args in
+    let t = made .after-submit .result in
+    take-accepted (a .self) (Submit (a .event)) _
+    (submit-known (a .self) (a .event) (made .before .if1 .left))
+    (submit-reply (a .self) (a .event) _ _ (made .after-submit .ensures) (sym (fate-past t (a .event) (c .if2 .left))))
+
+pub take-submit-spec : {M : Type 1} → statement M
+take-submit-spec =
+    tie.close
+    (tie.spec turn-down-requires returns after-submit-requires array-copy-out-standing returns-2 returns-3)
