@@ -1,24 +1,27 @@
 -- A batch on a kept state: what the code reads and writes of it, and the theorems for hosts.
-use Prim.Native.Nat.{ℕ}
+use Prim.Native.Nat.{ℕ, _≤_}
 use mathlib.Core.Logic.{_≢_, inl, inr}
 use mathlib.Core.Option.{Option, none, some}
 use lib.ListN.{length}
 use borrow.Author.Tests.{not-true, not-false}
 use mathlib.Core.Bool.{Bool, true, false, not, cond}
-use mathlib.Core.List.{List}
+use mathlib.Core.List.{List, _++_}
 use mathlib.Core.Path.{_≡_, refl, sym, _∙_, ap}
-use Rattle.batch.specs.Types.{CallFault, Incoherent, State, Reply, BatchEntry}
+use Rattle.batch.specs.Types.{Call, CallFault, Incoherent, State, Reply, BatchEntry}
 use Rattle.plan.specs.Faults.{answerNumber, isTurnedDown}
 use Rattle.plan.proofs.Tests.{clash, either}
-use Rattle.scheduler.specs.Answers.{turnedDownBy}
 use Rattle.scheduler.specs.Coherent.{coherent}
-use Rattle.image.specs.Layout.{imageOf, stateIn, isImage}
-use Rattle.image.proofs.Images.{write-back}
-use Rattle.batch.specs.Batch.{batchFault, batchReply, batchEntries}
-use Rattle.batch.specs.Kept.{batchNumberOn, imageAfterBatch, entriesOn}
+use Rattle.scheduler.specs.Lists.{scheduler, after}
+use Rattle.scheduler.specs.Sheet.{readSheet, admitted}
+use Rattle.image.specs.Layout.{imageOf, stateIn, isImage, Whole}
+use Rattle.image.proofs.Images.{image-is, read-back, write-back}
+use Rattle.image.proofs.ImageCalls.{turned-down, images-after, after-whole, admitted-whole, hosts}
+use Rattle.batch.specs.Batch.{callsOf, batchFault, batchReply, batchEntries}
+use Rattle.batch.specs.Kept.{batchNumberOn, imageAfterBatch, entriesOn, HostedBatch}
 use Rattle.batch.specs.Internal.Turns.{overfull, keptState}
 use Rattle.batch.proofs.EntryTurns.{fault-incoherent}
 use Rattle.batch.proofs.BatchLoop.{reply-some, reply-none, entries-some}
+use Rattle.batch.proofs.Batches.{extends}
 
 -- the state that the code reads
 module _ (b : List ℕ) where
@@ -102,3 +105,60 @@ on-bytes b es z = elim (either (isImage b)) [
       | inl d ↦ rw d (sym (ap imageOf (turned-down-same (stateIn b) es d .0) ∙ write-back b z h))
       | inr d ↦ rw d
     ]
+
+-- a batch turned down leaves the bytes and the entries
+pub batch-leaves : (b : List ℕ) (es : List BatchEntry)
+    → length b ≡ 384
+    → batchNumberOn b es ≢ 0
+    → (imageAfterBatch b es ≡ b) × (entriesOn b es ≡ es)
+batch-leaves b es z n = elim (either (isImage b)) [
+  | inl h ↦
+    let t = turned-down-same (stateIn b) es (turned-down (batchReply (stateIn b) es .answer) (λ e. n (number-image b es h ∙ e))) in
+    (bytes-image b es h ∙ ap imageOf (t .0) ∙ write-back b z h, entries-image b es h ∙ t .1)
+  | inr h ↦ (bytes-none b es h, entries-none b es h)
+]
+
+-- an image stays one, and other bytes do not become one
+pub batch-image : (b : List ℕ) (es : List BatchEntry) → isImage (imageAfterBatch b es) ≡ isImage b
+batch-image b es = elim (either (isImage b)) [
+  | inl h ↦ ap isImage (bytes-image b es h) ∙ image-is (batchReply (stateIn b) es .state) ∙ sym h
+  | inr h ↦ ap isImage (bytes-none b es h)
+]
+
+-- a batch on the image of a state
+module _ (s : State) (es : List BatchEntry) (w : Whole s) where
+  pub image-number : batchNumberOn (imageOf s) es ≡ answerNumber (batchReply s es .answer)
+  image-number =
+      number-image (imageOf s) es (image-is s)
+      ∙ ap (λ (t : State). answerNumber (batchReply t es .answer)) (read-back s w)
+
+  pub image-after : imageAfterBatch (imageOf s) es ≡ imageOf (batchReply s es .state)
+  image-after = bytes-image (imageOf s) es (image-is s) ∙ ap (λ (t : State). imageOf (batchReply t es .state)) (read-back s w)
+
+  pub image-entries : entriesOn (imageOf s) es ≡ batchEntries s es
+  image-entries = entries-image (imageOf s) es (image-is s) ∙ ap (λ (t : State). batchEntries t es) (read-back s w)
+
+-- a host that opens an admitted sheet, makes any calls on the bytes and then a batch has what the list of all these calls
+-- gives. As what it has then are the bytes after a list again, batches and calls may follow one another
+pub hosts-batch : (sheet : List ℕ) (s : State) (cs : List Call) (es : List BatchEntry)
+    → readSheet sheet ≡ admitted s
+    → length es ≤ 64
+    → HostedBatch s cs es
+hosts-batch sheet s cs es h few =
+    let w = admitted-whole sheet s h in
+    let t = after-whole s cs w in
+    let b = images-after s cs w in
+    let x = extends sheet s cs es h few in
+    record {
+      number =
+          ap (λ (l : List ℕ). batchNumberOn l es) b
+          ∙ image-number (after scheduler s cs) es t
+          ∙ ap (λ (r : Reply). answerNumber (r .answer)) (x .reply);
+      bytes =
+          ap (λ (l : List ℕ). imageAfterBatch l es) b
+          ∙ image-after (after scheduler s cs) es t
+          ∙ ap (λ (r : Reply). imageOf (r .state)) (x .reply)
+          ∙ sym (images-after s (cs ++ callsOf es) w);
+      entries = ap (λ (l : List ℕ). entriesOn l es) b ∙ image-entries (after scheduler s cs) es t ∙ x .entries;
+      hosted = hosts sheet s (cs ++ callsOf es) h;
+    }

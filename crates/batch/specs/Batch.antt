@@ -1,7 +1,8 @@
 -- A batch: the calls that its entries ask for, what each entry carries afterwards, and when the whole is turned down.
 use Prim.Native.Nat.{ℕ}
 use mathlib.Core.Bool.{Bool, true, false, not}
-use mathlib.Core.List.{List, [], _∷_}
+use mathlib.Core.List.{List, [], _∷_, _++_}
+use mathlib.Core.Path.{_≡_}
 use mathlib.Core.Option.{Option, none, some}
 use lib.Dec.{eqb, ltb}
 use lib.ListN.{length}
@@ -10,6 +11,7 @@ use Rattle.plan.specs.Fates.{fateNumber}
 use Rattle.plan.specs.Faults.{answerNumber, answerFate, firstFault}
 use Rattle.scheduler.specs.Coherent.{coherent}
 use Rattle.scheduler.specs.Answers.{turnedDownBy, call}
+use Rattle.scheduler.specs.Demand.{seen, Demand3}
 use Rattle.scheduler.specs.Lists.{scheduler, after}
 
 -- the call that an entry asks for, by its kind, as in the call records; none for another kind (9.11)
@@ -64,3 +66,10 @@ batchReply s es = elim (batchFault s (length es)) [
 -- the entries after it; those of a batch turned down stay as they were (9.13, 10.7)
 unfoldable pub batchEntries : State → List BatchEntry → List BatchEntry
 batchEntries s es = elim (batchFault s (length es)) [ some f ↦ es | none ↦ answers s es ]
+
+-- a batch made after the list cs, from the first state s: it is the list with the entries' calls added, and demand 3 is
+-- true of the state that it gives (11.14)
+pub record Extends (s : State) (cs : List Call) (es : List BatchEntry) : Type 0 where
+  pub reply : batchReply (after scheduler s cs) es ≡ record { answer = Made; state = after scheduler s (cs ++ callsOf es) }
+  pub entries : batchEntries (after scheduler s cs) es ≡ answers (after scheduler s cs) es
+  pub demand : Demand3 (s .plan) (seen scheduler s (cs ++ callsOf es)) (batchReply (after scheduler s cs) es .state)

@@ -2,14 +2,14 @@
 -- they are.
 use Prim.Native.Nat.{ℕ}
 use mathlib.Core.Bool.{cond}
-use mathlib.Core.List.{List}
+use mathlib.Core.List.{List, _++_}
 use mathlib.Core.Path.{_≡_}
 use Rattle.batch.specs.Types.{Call, State, BatchEntry}
 use Rattle.plan.specs.Faults.{answerNumber}
-use Rattle.scheduler.specs.Demand.{seen, Demand3}
-use Rattle.scheduler.specs.Lists.{scheduler}
+use Rattle.scheduler.specs.Lists.{scheduler, after}
 use Rattle.image.specs.Layout.{imageOf, stateIn, isImage}
-use Rattle.batch.specs.Batch.{batchReply, batchEntries}
+use Rattle.image.specs.Calls.{imagesAfter, Hosted}
+use Rattle.batch.specs.Batch.{callsOf, answers, batchReply, batchEntries}
 
 -- its number, 0 where it is taken (5.21)
 unfoldable pub batchNumberOn : List ℕ → List BatchEntry → ℕ
@@ -22,3 +22,11 @@ imageAfterBatch b es = cond (isImage b) (imageOf (batchReply (stateIn b) es .sta
 -- the entries after it (5.21)
 unfoldable pub entriesOn : List ℕ → List BatchEntry → List BatchEntry
 entriesOn b es = cond (isImage b) (batchEntries (stateIn b) es) es
+
+-- a batch on the bytes that a host keeps who opened a sheet with first state s and made the calls cs on them: it is
+-- taken, the bytes are those after the list with the entries' calls added, and the entries have their answers (5.23)
+pub record HostedBatch (s : State) (cs : List Call) (es : List BatchEntry) : Type 0 where
+  pub number : batchNumberOn (imagesAfter (imageOf s) cs) es ≡ 0
+  pub bytes : imageAfterBatch (imagesAfter (imageOf s) cs) es ≡ imagesAfter (imageOf s) (cs ++ callsOf es)
+  pub entries : entriesOn (imagesAfter (imageOf s) cs) es ≡ answers (after scheduler s cs) es
+  pub hosted : Hosted s (cs ++ callsOf es)

@@ -78,7 +78,7 @@ module _ (b : List ℕ) (c : Call) where
   ]
 
 -- a number other than 0 is a refusal
-turned-down : (a : Answer) → answerNumber a ≢ 0 → isTurnedDown a ≡ true
+pub turned-down : (a : Answer) → answerNumber a ≢ 0 → isTurnedDown a ≡ true
 turned-down (Is x) n = absurd (n refl)
 turned-down Made n = absurd (n refl)
 turned-down (TurnedDown f) n = refl
