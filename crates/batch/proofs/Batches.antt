@@ -90,17 +90,16 @@ pub batch-parts : (s : State) (es fs : List BatchEntry)
     (batchReply s (es ++ fs) .state ≡ batchReply t fs .state) × (batchEntries s (es ++ fs) ≡ batchEntries s es ++ batchEntries t fs)
 batch-parts s es fs h z few few′ few″ =
     let t : batchReply s es .state ≡ after scheduler s (callsOf es) = ap (λ (r : Reply). r .state) (batch-taken s es h few) in
-    let k : coherent (after scheduler s (callsOf es)) ≡ true = after-coherent s (callsOf es) z h in
-    (
+    let k : coherent (after scheduler s (callsOf es)) ≡ true = after-coherent s (callsOf es) z h in (
       ap (λ (r : Reply). r .state) (batch-taken s (es ++ fs) h few″)
-      ∙ ap (after scheduler s) (calls-parts es fs)
-      ∙ after-parts s (callsOf es) (callsOf fs)
-      ∙ ap (λ (r : Reply). r .state) (sym (batch-taken (after scheduler s (callsOf es)) fs k few′))
-      ∙ ap (λ (u : State). batchReply u fs .state) (sym t),
+          ∙ ap (after scheduler s) (calls-parts es fs)
+          ∙ after-parts s (callsOf es) (callsOf fs)
+          ∙ ap (λ (r : Reply). r .state) (sym (batch-taken (after scheduler s (callsOf es)) fs k few′))
+          ∙ ap (λ (u : State). batchReply u fs .state) (sym t),
       batch-answers s (es ++ fs) h few″
-      ∙ answers-parts s es fs
-      ∙ (λ i. sym (batch-answers s es h few) i ++ sym (batch-answers (after scheduler s (callsOf es)) fs k few′) i)
-      ∙ ap (λ (u : State). batchEntries s es ++ batchEntries u fs) (sym t),
+          ∙ answers-parts s es fs
+          ∙ (λ i. sym (batch-answers s es h few) i ++ sym (batch-answers (after scheduler s (callsOf es)) fs k few′) i)
+          ∙ ap (λ (u : State). batchEntries s es ++ batchEntries u fs) (sym t),
     )
 
 -- what an entry asks for stays

@@ -35,8 +35,7 @@ Outcome = ℕ × List (ℕ × ℕ) × List (ℕ × Fate)
 
 unfoldable pub outcome : State → List (ℕ × ℕ) → Outcome
 outcome s es =
-    let r = batchReply s (map entry es) in
-    (
+    let r = batchReply s (map entry es) in (
       answerNumber (r .answer),
       map (λ (e : BatchEntry). (e .refused, e .fate)) (batchEntries s (map entry es)),
       map (λ l. (l .event, l .fate)) (lines (r .state)),

@@ -113,8 +113,8 @@ pub batch-leaves : (b : List ℕ) (es : List BatchEntry)
     → (imageAfterBatch b es ≡ b) × (entriesOn b es ≡ es)
 batch-leaves b es z n = elim (either (isImage b)) [
   | inl h ↦
-    let t = turned-down-same (stateIn b) es (turned-down (batchReply (stateIn b) es .answer) (λ e. n (number-image b es h ∙ e))) in
-    (bytes-image b es h ∙ ap imageOf (t .0) ∙ write-back b z h, entries-image b es h ∙ t .1)
+      let t = turned-down-same (stateIn b) es (turned-down (batchReply (stateIn b) es .answer) (λ e. n (number-image b es h ∙ e))) in
+      (bytes-image b es h ∙ ap imageOf (t .0) ∙ write-back b z h, entries-image b es h ∙ t .1)
   | inr h ↦ (bytes-none b es h, entries-none b es h)
 ]
 
