@@ -94,7 +94,10 @@ pub on-bytes : (b : List ℕ) (es : List BatchEntry)
     → OnBytes b es (batchReply (keptState b) es) (batchEntries (keptState b) es)
 on-bytes b es z = elim (either (isImage b)) [
   | inl h ↦ rw (kept-image b h) (sym (number-image b es h), image h ∙ sym (bytes-image b es h), sym (entries-image b es h))
-  | inr h ↦ rw (kept-none b h, reply-some (overfull (stateIn b)) es Incoherent fails, entries-some (overfull (stateIn b)) es Incoherent fails) (sym (number-none b es h), sym (bytes-none b es h), sym (entries-none b es h))
+  | inr h ↦
+      let r = reply-some (overfull (stateIn b)) es Incoherent fails in
+      let e = entries-some (overfull (stateIn b)) es Incoherent fails in
+      rw (kept-none b h, r, e) (sym (number-none b es h), sym (bytes-none b es h), sym (entries-none b es h))
 ]
   where
     fails : batchFault (overfull (stateIn b)) (length es) ≡ some Incoherent

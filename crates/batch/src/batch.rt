@@ -1,5 +1,4 @@
 // A batch: the entries of a lent list, one after another, each on the state that the one before it left.
-use super::entry::Answered;
 use super::entry::BatchEntry;
 use super::entry::take_turn;
 use plan::answer::Answer;
@@ -32,7 +31,7 @@ pub fn submit_all(state: State, entries: &mut [BatchEntry]) -> Reply
 }
 
 // Whether a batch is taken, and its answer.
-pub struct Judged {
+pub(crate) struct Judged {
     pub taken: bool,
     pub answer: Answer,
 }

@@ -23,14 +23,14 @@ pub struct BatchEntry {
 }
 
 // The state after an entry's turn, and the entry with its answer.
-pub struct Answered {
+pub(crate) struct Answered {
     pub state: State,
     pub entry: BatchEntry,
 }
 
 // An entry's turn. The batch has tested number 12, and a state that passes it still does after any call, so the turns
 // do not test it.
-pub fn take_turn(state: State, entry: BatchEntry) -> Answered
+pub(crate) fn take_turn(state: State, entry: BatchEntry) -> Answered
     ensures { λ r. ⌜ r ≡ turn state entry ⌝ }
 {
     if entry.kind == 16 {

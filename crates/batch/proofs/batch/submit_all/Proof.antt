@@ -23,13 +23,16 @@ use prog.Wp.{Heap, Out, Env, Calls, Loops, Wp, WpFn, Tables, afterSeq, afterBloc
 use ghost.Atoms.{Atoms}
 use contract.Monad.{Fun}
 use contract.Running.{givenOf, tables, tablesOf}
-use types.Kit.{Given, Item, ‵, _⊛_, ⋆, Sq, runs, params′, anyQ, atRet, _$_, _∵_, !, qed, by, move, keep, drop, split, join, rewrite, fsplit, fsplit3, fjoin, suffices, frame, done}
-use types.Run.{look, look-raw, store-raw, init, forget, stop, hop, fld, from, load, lit, of-opd, bin, un, and-then, no-more, assigns, assigns-last, land, store, first, branches, skips, jumps, blocks, exec, returns-within, Below, again, loops, returns, enter, alloc1, alloc0, params1, pass1, pass0, free1, free0}
+use types.Kit.{Given, Item, ‵, _⊛_, ⋆, Sq, runs, params′, anyQ, atRet, _$_, _∵_, !, qed, by, move, keep, drop, split, join, rewrite}
+use types.Kit.{fsplit, fsplit3, fjoin, suffices, frame, done}
+use types.Run.{look, look-raw, store-raw, init, forget, stop, hop, fld, from, load, lit, of-opd, bin, un, and-then, no-more, assigns}
+use types.Run.{assigns-last, land, store, first, branches, skips, jumps, blocks, exec, returns-within, Below, again, loops, returns}
+use types.Run.{enter, alloc1, alloc0, params1, pass1, pass0, free1, free0}
 use types.Part.{whole, sub, look-in}
 use sound.WpLaws.{FmC, fmOf, WpFn-mono}
 use denote.RattleType.{RattleType, owns}
 use denote.Shadow.{pureI}
-use denote.Laws.{Is, shows, owns-make}
+use denote.Laws.{Is, Makes, shows, owns-make}
 use denote.Ref.{RefT}
 use denote.Plain.{uint-makes, uint-tells}
 use denote.Builtin.{u8, usize}
@@ -103,7 +106,8 @@ pub record Known {M : Type 1} (𝓤 : URA M) (H : Heap 𝓤) (A : Atoms 𝓤) (m
   pub of-judge : Triple 𝓤 (C #judge) (Its 𝓤 H A judge.ended (judge.clauses 𝓤 H A mem run))
   pub of-reply : Triple 𝓤 (C #reply-of) (Its 𝓤 H A reply-of.ended (reply-of.clauses 𝓤 H A mem run))
 
-module _ {M : Type 1} (𝓤 : URA M) (H : Heap 𝓤) (A : Atoms 𝓤) (W : Given 𝓤 H A) (mem : Memory → SProp 𝓤) (run : Routine → Fun 𝓤) (κ : Lft) (q : Share) (s : State) (b o : ℕ) (γ : GName) (ys : List BatchEntry) where
+module _ {M : Type 1} (𝓤 : URA M) (H : Heap 𝓤) (A : Atoms 𝓤) (W : Given 𝓤 H A) (mem : Memory → SProp 𝓤) (run : Routine → Fun 𝓤) (κ : Lft) (q : Share)
+    (s : State) (b o : ℕ) (γ : GName) (ys : List BatchEntry) where
   abbrev valS : State → Val
   valS x = S′.lowered x
 
@@ -124,6 +128,19 @@ module _ {M : Type 1} (𝓤 : URA M) (H : Heap 𝓤) (A : Atoms 𝓤) (W : Given
 
   abbrev IsJ : Judged → Type 0
   IsJ x = Is J.the-row x (valJ x ∷ [])
+
+  -- what each owns is facts alone
+  makesS : Makes 𝓤 H A S.the-row (Is S.the-row)
+  makesS = LL.makes S.the-type S′.the-plain 𝓤 H A
+
+  makesP : Makes 𝓤 H A P.the-row (Is P.the-row)
+  makesP = LL.makes P.the-type P′.the-plain 𝓤 H A
+
+  makesJ : Makes 𝓤 H A J.the-row (Is J.the-row)
+  makesJ = LL.makes J.the-type J′.the-plain 𝓤 H A
+
+  makesO : Makes 𝓤 H A O.the-row (Is O.the-row)
+  makesO = LL.makes O.the-type O′.the-plain 𝓤 H A
 
   abbrev ref : List BatchEntry → RefT (List BatchEntry)
   ref l = record { ptr = (b, o); name = γ; now = l }
@@ -170,14 +187,15 @@ module _ {M : Type 1} (𝓤 : URA M) (H : Heap 𝓤) (A : Atoms 𝓤) (W : Given
       nothing ! $ move ! (3 ∷ 0 ∷ []) $ join ! $ frame ! $
       -- [obs; the borrow]: with the fact on the machine value it is what the slice owns
       fjoin ! $ pureI ! (at-slice P.the-row (ref zs) (v ∷ [])) (tt, (tt, tt)) (ap (λ (m : ℕ). sliceVal (b, o) m ∷ []) (sym l), subst (Room P.the-row) (sym l) room) $ fjoin ! $
-      nothing ! $ move ! (1 ∷ 0 ∷ []) $ fjoin ! $ owned ! S.the-row (Is S.the-row) (LL.makes S.the-type S′.the-plain 𝓤 H A) s _ is $ fjoin ! $ frame ! $ owned ! O.the-row (Is O.the-row) (LL.makes O.the-type O′.the-plain 𝓤 H A) (out x) _ is′ $ done !
+      nothing ! $ move ! (1 ∷ 0 ∷ []) $ fjoin ! $ owned ! S.the-row (Is S.the-row) (makesS) s _ is $ fjoin ! $ frame ! $
+      owned ! O.the-row (Is O.the-row) (makesO) (out x) _ is′ $ done !
 
   -- where the list is turned down: what was passed is still owned
   exits-down : Is O.the-row (out s) (valO (out s) ∷ []) → Right s ys s ys → ent 𝓤 (onEntry 𝓤 H A f.signature (κ, tt) (q, tt) a vals) (Post (valO (out s)))
   exits-down is e =
       qed W ((‵ (flft κ q) ⊛ ‵ ftrue) ∷ ‵ (owns (S.the-row ∷ MutSlice (named 0) κ P.the-row ∷ []) a vals) ∷ []) ∵
       suffices ! _ (ends-at 𝓤 H A f.ended stayed (f.clauses 𝓤 H A mem run) W (((κ, tt), (q, tt), tt, a, vals), tt) (valO (out s)) (out s) (tt, (ys, tt)) (tt, (refl, tt))) $ says ! e $
-      frame ! $ frame ! $ owned ! O.the-row (Is O.the-row) (LL.makes O.the-type O′.the-plain 𝓤 H A) (out s) _ is $ done !
+      frame ! $ frame ! $ owned ! O.the-row (Is O.the-row) (makesO) (out s) _ is $ done !
 
   -- what a turn begins with: the place, the state, and the list as it stands
   pub record Turn : Type 0 where
@@ -205,7 +223,8 @@ module _ {M : Type 1} (𝓤 : URA M) (H : Heap 𝓤) (A : Atoms 𝓤) (W : Given
   typedO : (x : Reply) → Is O.the-row x (valO x ∷ []) → Holds (hasTy O′.mir (valO x)) × WT (valO x)
   typedO x is = LL.lawful O.the-type O′.the-laws 𝓤 H A W .typed x _ is .0
 
-  module _ (𝓣 : Tables 𝓤 H) (fm : FmC 𝓤 H (W .laws) (𝓣 .C)) (known : Known 𝓤 H A mem run (𝓣 .C)) (isS : IsS s) (room : Room P.the-row (length ys)) (l₀ l₁ l₂ l₃ l₄ l₅ l₆ l₇ l₈ l₉ l₁₀ l₁₁ l₁₂ l₁₃ l₁₄ : ℕ) where
+  module _ (𝓣 : Tables 𝓤 H) (fm : FmC 𝓤 H (W .laws) (𝓣 .C)) (known : Known 𝓤 H A mem run (𝓣 .C)) (isS : IsS s) (room : Room P.the-row (length ys))
+      (l₀ l₁ l₂ l₃ l₄ l₅ l₆ l₇ l₈ l₉ l₁₀ l₁₁ l₁₂ l₁₃ l₁₄ : ℕ) where
     abbrev C : Calls 𝓤 H
     C = 𝓣 .C
 
@@ -213,7 +232,8 @@ module _ {M : Type 1} (𝓤 : URA M) (H : Heap 𝓤) (A : Atoms 𝓤) (W : Given
     Λ = 𝓣 .Λ
 
     abbrev En : Env 𝓤 H
-    En = (O′.mir, l₀) ∷ (S′.mir, l₁) ∷ (slice, l₂) ∷ (J′.mir, l₃) ∷ (S′.mir, l₄) ∷ (word, l₅) ∷ (P′.mir, l₆) ∷ (B′.mir, l₇) ∷ (word, l₈) ∷ (tyBool, l₉) ∷ (word, l₁₀) ∷ (tyBool, l₁₁) ∷ (tyPtr, l₁₂) ∷ (P′.mir, l₁₃) ∷ (tyPtr, l₁₄) ∷ []
+    En = (O′.mir, l₀) ∷ (S′.mir, l₁) ∷ (slice, l₂) ∷ (J′.mir, l₃) ∷ (S′.mir, l₄) ∷ (word, l₅) ∷ (P′.mir, l₆) ∷ (B′.mir, l₇) ∷ (word, l₈)
+        ∷ (tyBool, l₉) ∷ (word, l₁₀) ∷ (tyBool, l₁₁) ∷ (tyPtr, l₁₂) ∷ (P′.mir, l₁₃) ∷ (tyPtr, l₁₄) ∷ []
 
     -- once the loop is left, the rest of the body runs
     abbrev Left : Out → SProp 𝓤
@@ -221,8 +241,15 @@ module _ {M : Type 1} (𝓤 : URA M) (H : Heap 𝓤) (A : Atoms 𝓤) (W : Given
 
     module _ (go : j .taken ≡ true) (isJ : IsJ j) where
       abbrev At : Turn → List (Item 𝓤)
-      At x = ‵ (row P.the-row fullShare (x .list) b o) ∷ ‵ (fobor κ q (Held P.the-row (length ys) b o γ)) ∷ ‵ (Obs ys) ∷ ‵ (fauth γ (codedHoleys P.the-row .code (heres P.the-row ys)))
-          ∷ ‵ (froom tyPtr l₁₄ 0) ∷ ‵ (fdies tyPtr l₁₄) ∷ ‵ (froom P′.mir l₁₃ 0) ∷ ‵ (fdies P′.mir l₁₃) ∷ ‵ (froom tyPtr l₁₂ 0) ∷ ‵ (fdies tyPtr l₁₂) ∷ ‵ (froom tyBool l₁₁ 0) ∷ ‵ (fdies tyBool l₁₁) ∷ ‵ (froom word l₁₀ 0) ∷ ‵ (fdies word l₁₀) ∷ ‵ (froom tyBool l₉ 0) ∷ ‵ (fdies tyBool l₉) ∷ ‵ (froom word l₈ 0) ∷ ‵ (fdies word l₈) ∷ ‵ (froom B′.mir l₇ 0) ∷ ‵ (fdies B′.mir l₇) ∷ ‵ (froom P′.mir l₆ 0) ∷ ‵ (fdies P′.mir l₆) ∷ ‵ (fat fullShare word l₅ 0 (vint w64 (x .at))) ∷ ‵ (fdies word l₅) ∷ ‵ (fat fullShare S′.mir l₄ 0 (valS (x .state))) ∷ ‵ (fdies S′.mir l₄) ∷ ‵ (fat fullShare J′.mir l₃ 0 (valJ j)) ∷ ‵ (fdies J′.mir l₃) ∷ ‵ (fat fullShare slice l₂ 0 v) ∷ ‵ (fdies slice l₂) ∷ ‵ (fat fullShare S′.mir l₁ 0 (valS s)) ∷ ‵ (fdies S′.mir l₁) ∷ ‵ (froom O′.mir l₀ 0) ∷ ‵ (fdies O′.mir l₀) ∷ []
+      At x = ‵ (row P.the-row fullShare (x .list) b o) ∷ ‵ (fobor κ q (Held P.the-row (length ys) b o γ)) ∷ ‵ (Obs ys)
+          ∷ ‵ (fauth γ (codedHoleys P.the-row .code (heres P.the-row ys)))
+          ∷ ‵ (froom tyPtr l₁₄ 0) ∷ ‵ (fdies tyPtr l₁₄) ∷ ‵ (froom P′.mir l₁₃ 0) ∷ ‵ (fdies P′.mir l₁₃) ∷ ‵ (froom tyPtr l₁₂ 0)
+          ∷ ‵ (fdies tyPtr l₁₂) ∷ ‵ (froom tyBool l₁₁ 0) ∷ ‵ (fdies tyBool l₁₁) ∷ ‵ (froom word l₁₀ 0) ∷ ‵ (fdies word l₁₀) ∷ ‵ (froom tyBool l₉ 0)
+          ∷ ‵ (fdies tyBool l₉) ∷ ‵ (froom word l₈ 0) ∷ ‵ (fdies word l₈) ∷ ‵ (froom B′.mir l₇ 0) ∷ ‵ (fdies B′.mir l₇) ∷ ‵ (froom P′.mir l₆ 0)
+          ∷ ‵ (fdies P′.mir l₆) ∷ ‵ (fat fullShare word l₅ 0 (vint w64 (x .at))) ∷ ‵ (fdies word l₅)
+          ∷ ‵ (fat fullShare S′.mir l₄ 0 (valS (x .state))) ∷ ‵ (fdies S′.mir l₄) ∷ ‵ (fat fullShare J′.mir l₃ 0 (valJ j)) ∷ ‵ (fdies J′.mir l₃)
+          ∷ ‵ (fat fullShare slice l₂ 0 v) ∷ ‵ (fdies slice l₂) ∷ ‵ (fat fullShare S′.mir l₁ 0 (valS s)) ∷ ‵ (fdies S′.mir l₁)
+          ∷ ‵ (froom O′.mir l₀ 0) ∷ ‵ (fdies O′.mir l₀) ∷ []
 
       abbrev Turned : Turn → Out → SProp 𝓤
       Turned x = afterTurn 𝓤 H (Below 𝓤 H A Nearer At x) Left
@@ -280,7 +307,7 @@ module _ {M : Type 1} (𝓤 : URA M) (H : Heap 𝓤) (A : Atoms 𝓤) (W : Given
             assigns ! (of-opd ! (load ! (from ! (hop ! (look ! 10 refl) (stop !))) (look-raw ! 0 refl))) (from ! (stop !)) (init ! 8 refl (typedP e isE)) $
             assigns ! (of-opd ! (load ! (from ! (stop !)) (look ! 8 refl))) (from ! (stop !)) (init ! 22 refl (typedP e isE)) $ nothing ! $
             calls-known ! fm take-turn.ended (take-turn.clauses 𝓤 H A mem run) (known .of-turn) (to-turn (x .state) e) r (valB r) (‵ ftrue)
-            (lone 𝓤 (owns-make 𝓤 H A (S.the-row ∷ P.the-row ∷ []) _ (LL.makes S.the-type S′.the-plain 𝓤 H A, (LL.makes P.the-type P′.the-plain 𝓤 H A, tt)) (x .state, (e, tt)) (valS (x .state) ∷ [], (valP e ∷ [], tt)) (x .is, (isE, tt))))
+            (lone 𝓤 (owns-make 𝓤 H A (S.the-row ∷ P.the-row ∷ []) _ (makesS, (makesP, tt)) (x .state, (e, tt)) (valS (x .state) ∷ [], (valP e ∷ [], tt)) (x .is, (isE, tt))))
             (λ z ws. id⊢ 𝓤 _) (B′.lowers .val-is r) (and-then ! (load ! (from ! (stop !)) (look ! 27 refl)) (and-then ! (load ! (from ! (stop !)) (look ! 23 refl)) (no-more !))) (λ isB.
             land ! (from ! (stop !)) (init ! 22 refl (LL.lawful B.the-type B′.the-laws 𝓤 H A W .typed r _ isB .0)) $ drop ! $ drop ! $
             assigns ! (bin ! (load ! (from ! (stop !)) (look ! 24 refl)) (lit ! tt) (record { fits = scaled less })) (from ! (stop !)) (store ! 14 refl (tt, record { fits = scaled less })) $
@@ -289,18 +316,24 @@ module _ {M : Type 1} (𝓤 : URA M) (H : Heap 𝓤) (A : Atoms 𝓤) (W : Given
             assigns ! (of-opd ! (load ! (from ! (fld ! refl (stop !))) (look-in ! 20 (sub ! 1 refl (whole !))))) (from ! (hop ! (look ! 6 refl) (stop !))) (store-raw ! 0 refl (typedP (r .entry) (entryIs isB))) $
             assigns ! (of-opd ! (load ! (from ! (fld ! refl (stop !))) (look-in ! 20 (sub ! 0 refl (whole !))))) (from ! (stop !)) (store ! 26 refl (typedS (r .state) (stateIs isB))) $
             -- the entry goes back into the row
-            move ! (1 ∷ []) $ drop ! $ owned ! P.the-row (Is P.the-row) (LL.makes P.the-type P′.the-plain 𝓤 H A) (r .entry) _ (entryIs isB) $ move ! (1 ∷ 0 ∷ []) $ elem-put ! P.the-row fullShare zs i (r .entry) (valP (r .entry) ∷ []) b o (within less) $
+            move ! (1 ∷ []) $ drop ! $ owned ! P.the-row (Is P.the-row) (makesP) (r .entry) _ (entryIs isB) $
+            move ! (1 ∷ 0 ∷ []) $ elem-put ! P.the-row fullShare zs i (r .entry) (valP (r .entry) ∷ []) b o (within less) $
             assigns-last ! (bin ! (load ! (from ! (stop !)) (look ! 22 refl)) (lit ! tt) (record { fits = next-fits less })) (from ! (stop !)) (store ! 22 refl (tt, record { fits = next-fits less })) $
-            forget ! 4 refl $ forget ! 6 refl $ forget ! 8 refl $ forget ! 10 refl $ forget ! 12 refl $ forget ! 18 refl $ forget ! 20 refl $ again ! Nearer At x (next-turn less (stateIs isB)) (nearer less))))
+            forget ! 4 refl $ forget ! 6 refl $ forget ! 8 refl $ forget ! 10 refl $ forget ! 12 refl $ forget ! 18 refl $ forget ! 20 refl $
+            again ! Nearer At x (next-turn less (stateIs isB)) (nearer less))))
             (λ over. jumps ! $ exec ! C Λ En mir′.t-8 (atRet En Post) $ closes-slice ! tt P.the-row ys zs (x .folds .long) b o $ nothing ! $
             -- [true; obs; the borrow; the token; _14; …]
             calls-known ! fm reply-of.ended (reply-of.clauses 𝓤 H A mem run) (known .of-reply) (to-reply (x .state)) (out (x .state)) (valO (out (x .state))) (‵ ftrue)
-            (lone 𝓤 (owns-make 𝓤 H A (J.the-row ∷ S.the-row ∷ []) _ (LL.makes J.the-type J′.the-plain 𝓤 H A, (LL.makes S.the-type S′.the-plain 𝓤 H A, tt)) (j, (x .state, tt)) (valJ j ∷ [], (valS (x .state) ∷ [], tt)) (isJ, (x .is, tt))))
+            (lone 𝓤 (owns-make 𝓤 H A (J.the-row ∷ S.the-row ∷ []) _ (makesJ, (makesS, tt)) (j, (x .state, tt)) (valJ j ∷ [], (valS (x .state) ∷ [], tt)) (isJ, (x .is, tt))))
             (λ z ws. id⊢ 𝓤 _) (O′.lowers .val-is (out (x .state)))
             (and-then ! (load ! (from ! (stop !)) (look ! 26 refl)) (and-then ! (load ! (from ! (stop !)) (look ! 24 refl)) (no-more !))) (λ isO.
             land ! (from ! (stop !)) (init ! 33 refl (typedO (out (x .state)) isO)) $ drop ! $ drop ! $
-            returns ! (look ! 31 refl) $ forget ! 9 refl $ forget ! 11 refl $ forget ! 21 refl $ forget ! 23 refl $ forget ! 25 refl $ forget ! 27 refl $ forget ! 29 refl $ forget ! 31 refl $
-            move ! (31 ∷ 32 ∷ []) $ free1 ! $ move ! (29 ∷ 30 ∷ []) $ free1 ! $ move ! (27 ∷ 28 ∷ []) $ free1 ! $ move ! (25 ∷ 26 ∷ []) $ free1 ! $ move ! (23 ∷ 24 ∷ []) $ free1 ! $ move ! (21 ∷ 22 ∷ []) $ free1 ! $ move ! (19 ∷ 20 ∷ []) $ free1 ! $ move ! (17 ∷ 18 ∷ []) $ free1 ! $ move ! (15 ∷ 16 ∷ []) $ free1 ! $ move ! (13 ∷ 14 ∷ []) $ free1 ! $ move ! (11 ∷ 12 ∷ []) $ free1 ! $ move ! (9 ∷ 10 ∷ []) $ free1 ! $ move ! (7 ∷ 8 ∷ []) $ free1 ! $ move ! (5 ∷ 6 ∷ []) $ free1 ! $ move ! (3 ∷ 4 ∷ []) $ free1 ! $ free0 ! $
+            returns ! (look ! 31 refl) $ forget ! 9 refl $ forget ! 11 refl $ forget ! 21 refl $ forget ! 23 refl $ forget ! 25 refl $ forget ! 27 refl $
+            forget ! 29 refl $ forget ! 31 refl $
+            move ! (31 ∷ 32 ∷ []) $ free1 ! $ move ! (29 ∷ 30 ∷ []) $ free1 ! $ move ! (27 ∷ 28 ∷ []) $ free1 ! $ move ! (25 ∷ 26 ∷ []) $ free1 ! $
+            move ! (23 ∷ 24 ∷ []) $ free1 ! $ move ! (21 ∷ 22 ∷ []) $ free1 ! $ move ! (19 ∷ 20 ∷ []) $ free1 ! $ move ! (17 ∷ 18 ∷ []) $ free1 ! $
+            move ! (15 ∷ 16 ∷ []) $ free1 ! $ move ! (13 ∷ 14 ∷ []) $ free1 ! $ move ! (11 ∷ 12 ∷ []) $ free1 ! $ move ! (9 ∷ 10 ∷ []) $ free1 ! $
+            move ! (7 ∷ 8 ∷ []) $ free1 ! $ move ! (5 ∷ 6 ∷ []) $ free1 ! $ move ! (3 ∷ 4 ∷ []) $ free1 ! $ free0 ! $
             by ! (exits (x .state) zs room isS isO (x .folds .long) (fine s ys (x .state) zs go (stops s ys i (x .state) zs (x .folds) (nltb→le i (length ys) over))))))
 
       looped : (x : Turn) → Sq W (At x) (runs C Λ En (loop mir′.turn-1) (anyQ Left))
@@ -308,7 +341,12 @@ module _ {M : Type 1} (𝓤 : URA M) (H : Heap 𝓤) (A : Atoms 𝓤) (W : Given
 
     -- the locals once they are allocated, and what the caller hands over
     abbrev Fresh : List (Item 𝓤)
-    Fresh = ‵ (froom tyPtr l₁₄ 0) ∷ ‵ (fdies tyPtr l₁₄) ∷ ‵ (froom P′.mir l₁₃ 0) ∷ ‵ (fdies P′.mir l₁₃) ∷ ‵ (froom tyPtr l₁₂ 0) ∷ ‵ (fdies tyPtr l₁₂) ∷ ‵ (froom tyBool l₁₁ 0) ∷ ‵ (fdies tyBool l₁₁) ∷ ‵ (froom word l₁₀ 0) ∷ ‵ (fdies word l₁₀) ∷ ‵ (froom tyBool l₉ 0) ∷ ‵ (fdies tyBool l₉) ∷ ‵ (froom word l₈ 0) ∷ ‵ (fdies word l₈) ∷ ‵ (froom B′.mir l₇ 0) ∷ ‵ (fdies B′.mir l₇) ∷ ‵ (froom P′.mir l₆ 0) ∷ ‵ (fdies P′.mir l₆) ∷ ‵ (froom word l₅ 0) ∷ ‵ (fdies word l₅) ∷ ‵ (froom S′.mir l₄ 0) ∷ ‵ (fdies S′.mir l₄) ∷ ‵ (froom J′.mir l₃ 0) ∷ ‵ (fdies J′.mir l₃) ∷ ‵ (froom slice l₂ 0) ∷ ‵ (fdies slice l₂) ∷ ‵ (froom S′.mir l₁ 0) ∷ ‵ (fdies S′.mir l₁) ∷ ‵ (froom O′.mir l₀ 0) ∷ ‵ (fdies O′.mir l₀)
+    Fresh = ‵ (froom tyPtr l₁₄ 0) ∷ ‵ (fdies tyPtr l₁₄) ∷ ‵ (froom P′.mir l₁₃ 0) ∷ ‵ (fdies P′.mir l₁₃) ∷ ‵ (froom tyPtr l₁₂ 0)
+        ∷ ‵ (fdies tyPtr l₁₂) ∷ ‵ (froom tyBool l₁₁ 0) ∷ ‵ (fdies tyBool l₁₁) ∷ ‵ (froom word l₁₀ 0) ∷ ‵ (fdies word l₁₀) ∷ ‵ (froom tyBool l₉ 0)
+        ∷ ‵ (fdies tyBool l₉) ∷ ‵ (froom word l₈ 0) ∷ ‵ (fdies word l₈) ∷ ‵ (froom B′.mir l₇ 0) ∷ ‵ (fdies B′.mir l₇) ∷ ‵ (froom P′.mir l₆ 0)
+        ∷ ‵ (fdies P′.mir l₆) ∷ ‵ (froom word l₅ 0) ∷ ‵ (fdies word l₅) ∷ ‵ (froom S′.mir l₄ 0) ∷ ‵ (fdies S′.mir l₄) ∷ ‵ (froom J′.mir l₃ 0)
+        ∷ ‵ (fdies J′.mir l₃) ∷ ‵ (froom slice l₂ 0) ∷ ‵ (fdies slice l₂) ∷ ‵ (froom S′.mir l₁ 0) ∷ ‵ (fdies S′.mir l₁) ∷ ‵ (froom O′.mir l₀ 0)
+        ∷ ‵ (fdies O′.mir l₀)
         ∷ (‵ (flft κ q) ⊛ ‵ ftrue) ∷ ‵ (owns (S.the-row ∷ MutSlice (named 0) κ P.the-row ∷ []) a vals) ∷ []
 
     -- the MIR, up to the loop: the borrow is opened once, before it
@@ -318,7 +356,7 @@ module _ {M : Type 1} (𝓤 : URA M) (H : Heap 𝓤) (A : Atoms 𝓤) (W : Given
         -- [_14; …; _1; …; room for _0; …; the token; what the parameters own]
         assigns ! (of-opd ! (load ! (from ! (fld ! refl (stop !))) (look-in ! 24 (sub ! 1 refl (whole !))))) (from ! (stop !)) (init ! 12 refl (tt, record { fits = room .0 })) $ nothing ! $
         calls-known ! fm judge.ended (judge.clauses 𝓤 H A mem run) (known .of-judge) to-judge j (valJ j) (‵ ftrue)
-        (lone 𝓤 (owns-make 𝓤 H A (S.the-row ∷ usize ∷ []) _ (LL.makes S.the-type S′.the-plain 𝓤 H A, (uint-makes 𝓤 H A W w64, tt)) (s, (length ys, tt)) (valS s ∷ [], (vint w64 (length ys) ∷ [], tt)) (isS, ((refl, room .0), tt))))
+        (lone 𝓤 (owns-make 𝓤 H A (S.the-row ∷ usize ∷ []) _ (makesS, (uint-makes 𝓤 H A W w64, tt)) (s, (length ys, tt)) (valS s ∷ [], (vint w64 (length ys) ∷ [], tt)) (isS, ((refl, room .0), tt))))
         (λ z ws. id⊢ 𝓤 _) (J′.lowers .val-is j) (and-then ! (load ! (from ! (stop !)) (look ! 27 refl)) (and-then ! (load ! (from ! (stop !)) (look ! 13 refl)) (no-more !))) (λ isJ.
         land ! (from ! (stop !)) (init ! 24 refl (typedJ j isJ)) $ drop ! $ drop ! $
         assigns ! (un ! (load ! (from ! (fld ! refl (stop !))) (look-in ! 22 (sub ! 0 refl (whole !)))) tt) (from ! (stop !)) (init ! 10 refl (tt, tt)) $
@@ -326,12 +364,16 @@ module _ {M : Type 1} (𝓤 : URA M) (H : Heap 𝓤) (A : Atoms 𝓤) (W : Given
         -- turned down: nothing is opened
         (λ down. nothing ! $
         calls-known ! fm reply-of.ended (reply-of.clauses 𝓤 H A mem run) (known .of-reply) (to-reply s) (out s) (valO (out s)) (‵ ftrue)
-        (lone 𝓤 (owns-make 𝓤 H A (J.the-row ∷ S.the-row ∷ []) _ (LL.makes J.the-type J′.the-plain 𝓤 H A, (LL.makes S.the-type S′.the-plain 𝓤 H A, tt)) (j, (s, tt)) (valJ j ∷ [], (valS s ∷ [], tt)) (isJ, (isS, tt))))
+        (lone 𝓤 (owns-make 𝓤 H A (J.the-row ∷ S.the-row ∷ []) _ (makesJ, (makesS, tt)) (j, (s, tt)) (valJ j ∷ [], (valS s ∷ [], tt)) (isJ, (isS, tt))))
         (λ z ws. id⊢ 𝓤 _) (O′.lowers .val-is (out s))
         (and-then ! (load ! (from ! (stop !)) (look ! 23 refl)) (and-then ! (load ! (from ! (stop !)) (look ! 27 refl)) (no-more !))) (λ isO.
         land ! (from ! (stop !)) (init ! 30 refl (typedO (out s) isO)) $ drop ! $ drop ! $
         returns-within ! Post refl (look ! 28 refl) $ forget ! 10 refl $ forget ! 12 refl $ forget ! 22 refl $ forget ! 24 refl $ forget ! 26 refl $ forget ! 28 refl $
-        move ! (28 ∷ 29 ∷ []) $ free1 ! $ move ! (26 ∷ 27 ∷ []) $ free1 ! $ move ! (24 ∷ 25 ∷ []) $ free1 ! $ move ! (22 ∷ 23 ∷ []) $ free1 ! $ move ! (20 ∷ 21 ∷ []) $ free1 ! $ move ! (18 ∷ 19 ∷ []) $ free1 ! $ move ! (16 ∷ 17 ∷ []) $ free1 ! $ move ! (14 ∷ 15 ∷ []) $ free1 ! $ move ! (12 ∷ 13 ∷ []) $ free1 ! $ move ! (10 ∷ 11 ∷ []) $ free1 ! $ move ! (8 ∷ 9 ∷ []) $ free1 ! $ move ! (6 ∷ 7 ∷ []) $ free1 ! $ move ! (4 ∷ 5 ∷ []) $ free1 ! $ move ! (2 ∷ 3 ∷ []) $ free1 ! $ move ! (0 ∷ 1 ∷ []) $ free1 ! $ free0 ! $ by ! (exits-down isO (turned-down s ys (is-false (j .taken) down)))))
+        move ! (28 ∷ 29 ∷ []) $ free1 ! $ move ! (26 ∷ 27 ∷ []) $ free1 ! $ move ! (24 ∷ 25 ∷ []) $ free1 ! $ move ! (22 ∷ 23 ∷ []) $ free1 ! $
+        move ! (20 ∷ 21 ∷ []) $ free1 ! $ move ! (18 ∷ 19 ∷ []) $ free1 ! $ move ! (16 ∷ 17 ∷ []) $ free1 ! $ move ! (14 ∷ 15 ∷ []) $ free1 ! $
+        move ! (12 ∷ 13 ∷ []) $ free1 ! $ move ! (10 ∷ 11 ∷ []) $ free1 ! $ move ! (8 ∷ 9 ∷ []) $ free1 ! $ move ! (6 ∷ 7 ∷ []) $ free1 ! $
+        move ! (4 ∷ 5 ∷ []) $ free1 ! $ move ! (2 ∷ 3 ∷ []) $ free1 ! $ move ! (0 ∷ 1 ∷ []) $ free1 ! $ free0 ! $
+        by ! (exits-down isO (turned-down s ys (is-false (j .taken) down)))))
         (λ go. skips ! $ exec ! C Λ En mir′.t-5 (atRet En Post) $ forget ! 10 refl $ forget ! 12 refl $
         assigns ! (of-opd ! (load ! (from ! (stop !)) (look ! 26 refl))) (from ! (stop !)) (init ! 20 refl (typedS s isS)) $
         assigns ! (of-opd ! (lit ! tt)) (from ! (stop !)) (init ! 18 refl (tt, record { fits = lit< tt })) $
@@ -343,15 +385,21 @@ module _ {M : Type 1} (𝓤 : URA M) (H : Heap 𝓤) (A : Atoms 𝓤) (W : Given
       → ent 𝓤 (onEntry 𝓤 H A f.signature (κ, tt) (q, tt) a vals) (WpFn 𝓤 H (𝓣 .C) (𝓣 .Λ) code.function (valS s ∷ v ∷ []) Post)
   walk 𝓣 fm known isS room =
       qed W ((‵ (flft κ q) ⊛ ‵ ftrue) ∷ ‵ (owns (S.the-row ∷ MutSlice (named 0) κ P.the-row ∷ []) a vals) ∷ []) ∵ enter ! (𝓣 .C) (𝓣 .Λ) code.function (valS s ∷ v ∷ []) _ $
-      alloc1 ! (λ l₀. alloc1 ! (λ l₁. alloc1 ! (λ l₂. alloc1 ! (λ l₃. alloc1 ! (λ l₄. alloc1 ! (λ l₅. alloc1 ! (λ l₆. alloc1 ! (λ l₇. alloc1 ! (λ l₈. alloc1 ! (λ l₉. alloc1 ! (λ l₁₀. alloc1 ! (λ l₁₁. alloc1 ! (λ l₁₂. alloc1 ! (λ l₁₃. alloc1 ! (λ l₁₄. alloc0 ! $
+      alloc1 ! (λ l₀. alloc1 ! (λ l₁. alloc1 ! (λ l₂. alloc1 ! (λ l₃. alloc1 ! (λ l₄. alloc1 ! (λ l₅. alloc1 ! (λ l₆. alloc1 ! (λ l₇.
+      alloc1 ! (λ l₈. alloc1 ! (λ l₉. alloc1 ! (λ l₁₀. alloc1 ! (λ l₁₁. alloc1 ! (λ l₁₂. alloc1 ! (λ l₁₃. alloc1 ! (λ l₁₄. alloc0 ! $
       body 𝓣 fm known isS room l₀ l₁ l₂ l₃ l₄ l₅ l₆ l₇ l₈ l₉ l₁₀ l₁₁ l₁₂ l₁₃ l₁₄)))))))))))))))
 
 module _ {M : Type 1} (𝓤 : URA M) (H : Heap 𝓤) (A : Atoms 𝓤) (W : Given 𝓤 H A) (mem : Memory → SProp 𝓤) (run : Routine → Fun 𝓤) where
-  submit-all-walks : (𝓣 : Tables 𝓤 H) → FmC 𝓤 H (W .laws) (𝓣 .C) → Known 𝓤 H A mem run (𝓣 .C) → Walks 𝓤 H A f.ended stayed (WpFn 𝓤 H (𝓣 .C) (𝓣 .Λ) code.function) (f.clauses 𝓤 H A mem run)
-  submit-all-walks 𝓣 fm known = walked 𝓤 H A f.ended stayed (f.clauses 𝓤 H A mem run) (WpFn 𝓤 H (𝓣 .C) (𝓣 .Λ) code.function) (λ κs. ((λ (x : State). S′.lowered x ∷ []), (slice-vals, tt))) (λ κs. (S′.lowers .val-is, (mut-slice-tells (named 0) (κs .0) P.the-row, tt)))
-      (λ κs qs bounds a g are. via 𝓤 _ (fst∗ 𝓤 _ (emp 𝓤)) (walk 𝓤 H A W mem run (κs .0) (qs .0) (a .0) (a .1 .0 .ptr .0) (a .1 .0 .ptr .1) (a .1 .0 .name) (a .1 .0 .now) 𝓣 fm known (are .0) (are .1 .0 .0 .1)))
+  submit-all-walks : (𝓣 : Tables 𝓤 H) → FmC 𝓤 H (W .laws) (𝓣 .C) → Known 𝓤 H A mem run (𝓣 .C)
+      → Walks 𝓤 H A f.ended stayed (WpFn 𝓤 H (𝓣 .C) (𝓣 .Λ) code.function) (f.clauses 𝓤 H A mem run)
+  submit-all-walks 𝓣 fm known = walked 𝓤 H A f.ended stayed (f.clauses 𝓤 H A mem run)
+      (WpFn 𝓤 H (𝓣 .C) (𝓣 .Λ) code.function) (λ κs. ((λ (x : State). S′.lowered x ∷ []), (slice-vals, tt)))
+      (λ κs. (S′.lowers .val-is, (mut-slice-tells (named 0) (κs .0) P.the-row, tt)))
+      (λ κs qs bounds a g are. via 𝓤 _ (fst∗ 𝓤 _ (emp 𝓤))
+      (walk 𝓤 H A W mem run (κs .0) (qs .0) (a .0) (a .1 .0 .ptr .0) (a .1 .0 .ptr .1) (a .1 .0 .name) (a .1 .0 .now) 𝓣 fm known (are .0) (are .1 .0 .0 .1)))
 
-submit-all-meets : {M : Type 1} (𝓤 : URA M) (H : Heap 𝓤) (A : Atoms 𝓤) (W : Given 𝓤 H A) (mem : Memory → SProp 𝓤) (run : Routine → Fun 𝓤) (𝓣 : Tables 𝓤 H) → Known 𝓤 H A mem run (𝓣 .C)
+submit-all-meets : {M : Type 1} (𝓤 : URA M) (H : Heap 𝓤) (A : Atoms 𝓤) (W : Given 𝓤 H A) (mem : Memory → SProp 𝓤) (run : Routine
+    → Fun 𝓤) (𝓣 : Tables 𝓤 H) → Known 𝓤 H A mem run (𝓣 .C)
     → Meets 𝓤 H A f.signature (WpFn 𝓤 H (𝓣 .C) (𝓣 .Λ) code.function) (f.spec 𝓤 H A mem run)
 submit-all-meets 𝓤 H A W mem run 𝓣 known =
     walk-meets 𝓤 H A f.ended stayed W (goes-none 𝓤 H A W 1 (λ _. S.the-row) yes (λ κs x f. refl), (goes-slice 𝓤 H A W 1 0 tt (plain (λ _. P.the-row)), tt)) (f.clauses 𝓤 H A mem run)
@@ -363,7 +411,10 @@ submit-all-spec 𝓤 H 𝓜 𝓖 𝓡 =
     entered 𝓤 H (tripleOf 𝓤 H (𝓖 .A) f.signature (f.spec 𝓤 H (𝓖 .A) (𝓜 .mem) (𝓡 .run)))
     (tables 𝓤 H 𝓜 𝓡 code.env .C) (tables 𝓤 H 𝓜 𝓡 code.env .Λ) #submit-all code.function (code.unfolded 𝓤 H 𝓜 𝓡)
     (submit-all-meets 𝓤 H (𝓖 .A) (givenOf 𝓤 H 𝓜 𝓖) (𝓜 .mem) (𝓡 .run) (tablesOf 𝓤 H 𝓜 (tables 𝓤 H 𝓜 𝓡 code.env)) (record {
-      of-turn = cited 𝓤 H (Its 𝓤 H (𝓖 .A) take-turn.ended (take-turn.clauses 𝓤 H (𝓖 .A) (𝓜 .mem) (𝓡 .run))) 𝓜 𝓡 code.env #take-turn take-turn-def.routine code.calls-batch·entry·take-turn (take-turn-thm.met 𝓤 H 𝓜 𝓖 𝓡);
-      of-judge = cited 𝓤 H (Its 𝓤 H (𝓖 .A) judge.ended (judge.clauses 𝓤 H (𝓖 .A) (𝓜 .mem) (𝓡 .run))) 𝓜 𝓡 code.env #judge judge-def.routine code.calls-batch·batch·judge (judge-thm.met 𝓤 H 𝓜 𝓖 𝓡);
-      of-reply = cited 𝓤 H (Its 𝓤 H (𝓖 .A) reply-of.ended (reply-of.clauses 𝓤 H (𝓖 .A) (𝓜 .mem) (𝓡 .run))) 𝓜 𝓡 code.env #reply-of reply-of-def.routine code.calls-batch·batch·reply-of (reply-of-thm.met 𝓤 H 𝓜 𝓖 𝓡);
+      of-turn = cited 𝓤 H (Its 𝓤 H (𝓖 .A) take-turn.ended (take-turn.clauses 𝓤 H (𝓖 .A) (𝓜 .mem) (𝓡 .run))) 𝓜 𝓡 code.env
+          #take-turn take-turn-def.routine code.calls-batch·entry·take-turn (take-turn-thm.met 𝓤 H 𝓜 𝓖 𝓡);
+      of-judge = cited 𝓤 H (Its 𝓤 H (𝓖 .A) judge.ended (judge.clauses 𝓤 H (𝓖 .A) (𝓜 .mem) (𝓡 .run))) 𝓜 𝓡 code.env
+          #judge judge-def.routine code.calls-batch·batch·judge (judge-thm.met 𝓤 H 𝓜 𝓖 𝓡);
+      of-reply = cited 𝓤 H (Its 𝓤 H (𝓖 .A) reply-of.ended (reply-of.clauses 𝓤 H (𝓖 .A) (𝓜 .mem) (𝓡 .run))) 𝓜 𝓡 code.env
+          #reply-of reply-of-def.routine code.calls-batch·batch·reply-of (reply-of-thm.met 𝓤 H 𝓜 𝓖 𝓡);
     }))

@@ -224,7 +224,8 @@ module _ {M : Type 1} (𝓤 : URA M) (H : Heap 𝓤) (A : Atoms 𝓤) (W : Given
         assigns ! (agg ! (and-then ! (load ! (from ! (stop !)) (look ! 9 refl)) (and-then ! (load ! (from ! (fld ! refl (stop !))) (look-in ! 17 (sub ! 1 refl (whole !)))) (no-more !))))
         (from ! (stop !)) (init ! 7 refl (tt, (tt, (record { fits = room .0 }, tt)))) $
         move ! (3 ∷ 4 ∷ []) $ use2 W (raw (Its 𝓤 H A submit-all.ended (submit-all.clauses 𝓤 H A mem″ run) .pre to-all)) (goes-all isS) $
-        calls-known-mut ! fm submit-all.ended (submit-all.clauses 𝓤 H A mem″ run) (known .of-all) to-all r valO (tt, (zs, tt)) (raw (Its 𝓤 H A submit-all.ended (submit-all.clauses 𝓤 H A mem″ run) .pre to-all)) (id⊢ 𝓤 _)
+        calls-known-mut ! fm submit-all.ended (submit-all.clauses 𝓤 H A mem″ run) (known .of-all) to-all r valO (tt, (zs, tt))
+        (raw (Its 𝓤 H A submit-all.ended (submit-all.clauses 𝓤 H A mem″ run) .pre to-all)) (id⊢ 𝓤 _)
         (λ x ws. fact-mono 𝓤 ((x ≡ r) × (ws .1 .0 ≡ zs)) ((x ≡ r) × (ws ≡ (tt, (zs, tt)))) (λ h. (h .0, λ i. (tt, (h .1 i, tt)))))
         (O′.lowers .val-is r) (and-then ! (load ! (from ! (stop !)) (look ! 12 refl)) (and-then ! (load ! (from ! (stop !)) (look ! 6 refl)) (no-more !))) (λ isO.
         land ! (from ! (stop !)) (init ! 12 refl (typedO isO)) $ drop ! $
@@ -232,7 +233,8 @@ module _ {M : Type 1} (𝓤 : URA M) (H : Heap 𝓤) (A : Atoms 𝓤) (W : Given
         assigns ! (addr ! (from ! (hop ! (look ! 19 refl) (stop !)))) (from ! (stop !)) (init ! 5 refl (tt, tt)) $
         move ! (2 ∷ 3 ∷ 4 ∷ []) $ feqI ! (List Val) (vptr b o ∷ []) (vptr b o ∷ []) refl $ fjoin3 ! $
         use2 W (raw (Its 𝓤 H A note-reply.ended (note-reply.clauses 𝓤 H A mem″ run) .pre to-note)) (goes-note isO) $
-        calls-known-mut ! fm note-reply.ended (note-reply.clauses 𝓤 H A mem″ run) (known .of-note) to-note n (vint w8 n) (noted bs r, (tt, tt)) (raw (Its 𝓤 H A note-reply.ended (note-reply.clauses 𝓤 H A mem″ run) .pre to-note)) (id⊢ 𝓤 _)
+        calls-known-mut ! fm note-reply.ended (note-reply.clauses 𝓤 H A mem″ run) (known .of-note) to-note n (vint w8 n) (noted bs r, (tt, tt))
+        (raw (Its 𝓤 H A note-reply.ended (note-reply.clauses 𝓤 H A mem″ run) .pre to-note)) (id⊢ 𝓤 _)
         (λ x ws. fact-mono 𝓤 ((x ≡ n) × (ws .0 ≡ noted bs r)) ((x ≡ n) × (ws ≡ (noted bs r, (tt, tt)))) (λ h. (h .0, λ i. (h .1 i, (tt, tt)))))
         (uint-tells w8 n) (and-then ! (load ! (from ! (stop !)) (look ! 3 refl)) (and-then ! (load ! (from ! (stop !)) (look ! 9 refl)) (no-more !))) (λ isN.
         land ! (from ! (stop !)) (init ! 21 refl (uint-lawful 𝓤 H A W w8 .typed n _ isN .0)) $
