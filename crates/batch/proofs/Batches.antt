@@ -6,8 +6,11 @@ use mathlib.Core.Bool.{true, false}
 use mathlib.Core.List.{List, [], _∷_, _++_, map}
 use mathlib.Core.Option.{Option, none, some}
 use mathlib.Core.Path.{_≡_, refl, sym, _∙_, ap, subst}
+use mathlib.Core.Logic.{inl, inr}
+use lib.Dec.{ltb}
 use lib.ListN.{length}
-use Rattle.batch.specs.Types.{Call, CallFault, Made, State, Reply, BatchEntry}
+use Rattle.plan.proofs.Tests.{either}
+use Rattle.batch.specs.Types.{Call, CallFault, TooLong, Made, State, Reply, BatchEntry}
 use Rattle.scheduler.specs.Answers.{call}
 use Rattle.scheduler.specs.Coherent.{coherent}
 use Rattle.scheduler.specs.Demand.{seen, Demand3}
@@ -18,8 +21,8 @@ use Rattle.theory.proofs.Coherence.{call-coherent, sized-call}
 use Rattle.theory.proofs.Demands.{demand3, admitted-coherent}
 use Rattle.image.specs.Layout.{Whole}
 use Rattle.image.proofs.ImageCalls.{admitted-whole}
-use Rattle.batch.specs.Batch.{askedBy, callsOf, answered, afterEntry, answers, batchFault, batchReply, batchEntries, Extends}
-use Rattle.batch.proofs.EntryTurns.{answered-some, answered-none, calls-some, calls-none, after-first, fault-none}
+use Rattle.batch.specs.Batch.{askedBy, callsOf, answered, afterEntry, answers, batchFault, batchReply, batchEntries, Extends, Move, one, together, moved, callsIn}
+use Rattle.batch.proofs.EntryTurns.{answered-some, answered-none, calls-some, calls-none, after-first, fault-long, fault-none}
 use Rattle.batch.proofs.BatchLoop.{reply-some, reply-none, entries-some, entries-none}
 
 -- the calls of a batch in two parts, and their answers
@@ -59,6 +62,11 @@ pub after-coherent : (s : State) (cs : List Call) → Sized s → coherent s ≡
 unfolding after
 after-coherent s [] z h = h
 after-coherent s (c ∷ cs) z h = after-coherent (call s c .state) cs (sized-call s c z) (call-coherent s c z h)
+
+after-sized : (s : State) (cs : List Call) → Sized s → Sized (after scheduler s cs)
+unfolding after
+after-sized s [] z = z
+after-sized s (c ∷ cs) z = after-sized (call s c .state) cs (sized-call s c z)
 
 -- so does a batch
 pub batch-coherent : (s : State) (es : List BatchEntry) → Sized s → coherent s ≡ true → coherent (batchReply s es .state) ≡ true
@@ -141,3 +149,38 @@ extends sheet s cs es h few =
       demand = subst (Demand3 (s .plan) (seen scheduler s (cs ++ callsOf es))) (sym (ap (λ (r : Reply). r .state) e))
           (demand3 sheet s (cs ++ callsOf es) h);
     }
+
+-- calls and batches in any sequence: the list of the calls that they come to
+calls-long : (es : List BatchEntry) (ms : List Move) → ltb 64 (length es) ≡ true → callsIn (together es ∷ ms) ≡ callsIn ms
+unfolding callsIn
+calls-long es ms h = rw (h, callsIn)
+
+calls-few : (es : List BatchEntry) (ms : List Move)
+    → ltb 64 (length es) ≡ false
+    → callsIn (together es ∷ ms) ≡ callsOf es ++ callsIn ms
+unfolding callsIn
+calls-few es ms h = rw (h, callsIn)
+
+pub moves-list : (s : State) (ms : List Move) → Sized s → coherent s ≡ true → moved s ms ≡ after scheduler s (callsIn ms)
+unfolding moved callsIn after
+moves-list s [] z h = refl
+moves-list s (one c ∷ ms) z h = moves-list (call s c .state) ms (sized-call s c z) (call-coherent s c z h)
+moves-list s (together es ∷ ms) z h = elim (either (ltb 64 (length es))) [
+  | inl l ↦
+      ap (λ (r : Reply). moved (r .state) ms) (reply-some s es TooLong (fault-long s (length es) h l))
+      ∙ moves-list s ms z h
+      ∙ ap (after scheduler s) (sym (calls-long es ms l))
+  | inr l ↦
+      ap (λ (r : Reply). moved (r .state) ms) (reply-none s es (fault-none s (length es) h l))
+      ∙ moves-list (after scheduler s (callsOf es)) ms (after-sized s (callsOf es) z) (after-coherent s (callsOf es) z h)
+      ∙ sym (after-parts s (callsOf es) (callsIn ms))
+      ∙ ap (after scheduler s) (sym (calls-few es ms l))
+]
+
+-- so on an admitted sheet demand 3 is true of them
+pub moves-demand : (sheet : List ℕ) (s : State) (ms : List Move)
+    → readSheet sheet ≡ admitted s
+    → Demand3 (s .plan) (seen scheduler s (callsIn ms)) (moved s ms)
+moves-demand sheet s ms h =
+    let e = moves-list s ms (admitted-whole sheet s h .sized) (admitted-coherent sheet s h) in
+    subst (Demand3 (s .plan) (seen scheduler s (callsIn ms))) (sym e) (demand3 sheet s (callsIn ms) h)

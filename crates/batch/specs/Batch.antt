@@ -73,3 +73,20 @@ pub record Extends (s : State) (cs : List Call) (es : List BatchEntry) : Type 0 
   pub reply : batchReply (after scheduler s cs) es ≡ record { answer = Made; state = after scheduler s (cs ++ callsOf es) }
   pub entries : batchEntries (after scheduler s cs) es ≡ answers (after scheduler s cs) es
   pub demand : Demand3 (s .plan) (seen scheduler s (cs ++ callsOf es)) (batchReply (after scheduler s cs) es .state)
+
+-- calls by themselves and batches, in any sequence (11.14)
+pub data Move : Type 0 where
+  one : Call → Move
+  together : List BatchEntry → Move
+
+-- the state after them, each on what the one before it left, also where that was turned down (11.14)
+unfoldable pub moved : State → List Move → State
+moved s [] = s
+moved s (one c ∷ ms) = moved (call s c .state) ms
+moved s (together es ∷ ms) = moved (batchReply s es .state) ms
+
+-- the calls that they come to; a batch that is too long makes none (11.14)
+unfoldable pub callsIn : List Move → List Call
+callsIn [] = []
+callsIn (one c ∷ ms) = c ∷ callsIn ms
+callsIn (together es ∷ ms) = elim (ltb 64 (length es)) [ true ↦ callsIn ms | false ↦ callsOf es ++ callsIn ms ]
