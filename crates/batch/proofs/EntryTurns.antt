@@ -67,20 +67,13 @@ pub calls-none : (e : BatchEntry) (es : List BatchEntry) → askedBy e ≡ none 
 unfolding callsOf
 calls-none e es h = rw (h, callsOf)
 
--- an entry with its call's answer, and with the state after the call, as the code has them
+-- an entry with its call's answer, as the code has it
 pub carried : (e x : BatchEntry) (a : Answer) (n f : ℕ)
     → n ≡ answerNumber a
     → f ≡ fateCarried (answerFate a)
     → x ≡ carrying e n f
     → x ≡ carries e a
 carried e x a n f h k same = same ∙ (λ i. carrying e (h i) (k i))
-
-pub single-is : (s : State) (e x : BatchEntry) (c : Call) (r : Reply)
-    → r ≡ takeCall s c
-    → x ≡ carries e (r .answer)
-    → _≡_ {A = Answered} (record { state = r .state; entry = x }) (single e (takeCall s c))
-single-is s e x c r h same =
-    ap {B = Answered} (λ (y : BatchEntry). record { state = r .state; entry = y }) same ∙ ap (single e) h
 
 -- a turn on a state that passes number 12 is the single call
 pub turn-is : (s : State) (e : BatchEntry)

@@ -3,12 +3,11 @@ use plan::answer::Answer;
 use plan::answer::FateAnswered;
 use plan::answer::answer_fate;
 use plan::answer::answer_number;
-use plan::calls::Call;
 use plan::fate::fate_number;
+use scheduler::reply::Reply;
 use scheduler::state::State;
 ghost use mathlib.Core.Path.{_≡_};
 ghost use Rattle.plan.specs.Faults.{answerFate};
-ghost use Rattle.scheduler.specs.Answers.{takeCall};
 ghost use Rattle.batch.specs.Batch.{carrying, carries, fateCarried};
 ghost use Rattle.batch.specs.Internal.Turns.{single, turn};
 
@@ -34,10 +33,10 @@ pub(crate) fn take_turn(state: State, entry: BatchEntry) -> Answered
     ensures { λ r. ⌜ r ≡ turn state entry ⌝ }
 {
     if entry.kind == 16 {
-        return make_call(state, entry, Call::Submit(entry.number));
+        return answer_entry(entry, state.take_submit(entry.number));
     }
     if entry.kind == 17 {
-        return make_call(state, entry, Call::Close(entry.number));
+        return answer_entry(entry, state.take_close(entry.number));
     }
     Answered {
         state,
@@ -45,11 +44,10 @@ pub(crate) fn take_turn(state: State, entry: BatchEntry) -> Answered
     }
 }
 
-// The single call that an entry asks for.
-fn make_call(state: State, entry: BatchEntry, made: Call) -> Answered
-    ensures { λ r. ⌜ r ≡ single entry (takeCall state made) ⌝ }
+// The state after the entry's call, and the entry with the call's answer.
+fn answer_entry(entry: BatchEntry, reply: Reply) -> Answered
+    ensures { λ r. ⌜ r ≡ single entry reply ⌝ }
 {
-    let reply = state.take_call(made);
     let answer = reply.answer;
     let next = reply.state;
     Answered {

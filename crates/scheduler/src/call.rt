@@ -54,7 +54,13 @@ impl State {
         if !self.is_coherent() {
             return self.turn_down(CallFault::Incoherent);
         }
-        self.take_finish()
+        if self.has_unclosed() {
+            return self.turn_down(CallFault::NotClosed);
+        }
+        Reply {
+            answer: Answer::Made,
+            state: self.after_finish(),
+        }
     }
 
     // Any call.
@@ -68,14 +74,45 @@ impl State {
         }
     }
 
-    // A call where the state hangs together: what is left of it once number 12 is tested.
-    pub fn take_call(self, made: Call) -> Reply
-        ensures { λ r. ⌜ r ≡ takeCall self made ⌝ }
+    // Hand in an event where the state hangs together: what is left of it once number 12 is tested.
+    pub fn take_submit(self, event: u8) -> Reply
+        ensures { λ r. ⌜ r ≡ takeCall self (Submit event) ⌝ }
     {
-        match made {
-            Call::Submit(event) => self.take_submit(event),
-            Call::Close(step) => self.take_close(step),
-            Call::Finish => self.take_finish(),
+        let plan = self.plan;
+        if plan.event_count <= event {
+            return self.turn_down(CallFault::Unknown);
+        }
+        let state = self.after_submit(event);
+        let standings = state.standings;
+        let mut fate = Fate::Open;
+        if event < 16 {
+            let standing = standings[event as usize];
+            fate = standing.fate;
+        }
+        Reply {
+            answer: Answer::Is(fate),
+            state,
+        }
+    }
+
+    // Close a step where the state hangs together.
+    pub fn take_close(self, step: u8) -> Reply
+        ensures { λ r. ⌜ r ≡ takeCall self (Close step) ⌝ }
+    {
+        let plan = self.plan;
+        let events = plan.events;
+        let closed = self.closed;
+        if !has_event(events, plan.event_count, step) {
+            return self.turn_down(CallFault::Unknown);
+        }
+        if step < 8 {
+            if closed[step as usize] {
+                return self.turn_down(CallFault::AlreadyClosed);
+            }
+        }
+        Reply {
+            answer: Answer::Made,
+            state: self.after_close(step),
         }
     }
 
@@ -129,61 +166,6 @@ impl State {
             Call::Submit(event) => self.after_submit(event),
             Call::Close(step) => self.after_close(step),
             Call::Finish => self.after_finish(),
-        }
-    }
-
-    // A hand-in, number 12 tested.
-    fn take_submit(self, event: u8) -> Reply
-        ensures { λ r. ⌜ r ≡ takeCall self (Submit event) ⌝ }
-    {
-        let plan = self.plan;
-        if plan.event_count <= event {
-            return self.turn_down(CallFault::Unknown);
-        }
-        let state = self.after_submit(event);
-        let standings = state.standings;
-        let mut fate = Fate::Open;
-        if event < 16 {
-            let standing = standings[event as usize];
-            fate = standing.fate;
-        }
-        Reply {
-            answer: Answer::Is(fate),
-            state,
-        }
-    }
-
-    // A closing, number 12 tested.
-    fn take_close(self, step: u8) -> Reply
-        ensures { λ r. ⌜ r ≡ takeCall self (Close step) ⌝ }
-    {
-        let plan = self.plan;
-        let events = plan.events;
-        let closed = self.closed;
-        if !has_event(events, plan.event_count, step) {
-            return self.turn_down(CallFault::Unknown);
-        }
-        if step < 8 {
-            if closed[step as usize] {
-                return self.turn_down(CallFault::AlreadyClosed);
-            }
-        }
-        Reply {
-            answer: Answer::Made,
-            state: self.after_close(step),
-        }
-    }
-
-    // A winding up, number 12 tested.
-    fn take_finish(self) -> Reply
-        ensures { λ r. ⌜ r ≡ takeCall self Finish ⌝ }
-    {
-        if self.has_unclosed() {
-            return self.turn_down(CallFault::NotClosed);
-        }
-        Reply {
-            answer: Answer::Made,
-            state: self.after_finish(),
         }
     }
 
