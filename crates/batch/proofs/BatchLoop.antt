@@ -2,13 +2,13 @@
 use Prim.Native.Nat.{ℕ, suc, _+_, _≤_, _<_}
 use native.Mathlib.Omega.{arith}
 use native.Mathlib.Numerals.{add-one}
-use mathlib.Core.Bool.{Bool, true, false}
+use mathlib.Core.Bool.{true, false}
 use mathlib.Core.List.{List, [], _∷_, _++_, append-assoc, append-nil}
 use mathlib.Core.Option.{Option, none, some}
 use mathlib.Core.Path.{_≡_, refl, sym, _∙_, ap}
 use lib.ListN.{length, getD, set, take, drop, length-set}
 use lib.Seq.{take-length, drop-length, drop-cons, drop-set-lt, take-suc-set}
-use Rattle.batch.specs.Types.{CallFault, Made, State, Reply, BatchEntry, Answered}
+use Rattle.batch.specs.Types.{CallFault, Made, State, Reply, BatchEntry}
 use Rattle.plan.proofs.Tests.{clash}
 use Rattle.scheduler.specs.Answers.{turnedDownBy}
 use Rattle.scheduler.specs.Coherent.{coherent}

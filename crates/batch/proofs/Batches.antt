@@ -19,7 +19,6 @@ use Rattle.scheduler.specs.Sheet.{readSheet, admitted}
 use Rattle.scheduler.specs.State.{Sized}
 use Rattle.theory.proofs.Coherence.{call-coherent, sized-call}
 use Rattle.theory.proofs.Demands.{demand3, admitted-coherent}
-use Rattle.image.specs.Layout.{Whole}
 use Rattle.image.proofs.ImageCalls.{admitted-whole}
 use Rattle.batch.specs.Batch.{askedBy, callsOf, answered, afterEntry, answers, batchFault, batchReply, batchEntries, Extends, Move, one, together, moved, callsIn}
 use Rattle.batch.proofs.EntryTurns.{answered-some, answered-none, calls-some, calls-none, after-first, fault-long, fault-none}

@@ -1,7 +1,7 @@
 -- Batches by computation: cases of section 14 handed in together, each number, each bound, and the order of the tests
 -- (14.16). Bytes are written in decimal.
 use Prim.Native.Nat.{ℕ}
-use mathlib.Core.List.{List, [], _∷_, _++_, map}
+use mathlib.Core.List.{List, [], _∷_, map}
 use mathlib.Core.Path.{_≡_, refl}
 use lib.ListN.{set, replicate}
 use Rattle.batch.specs.Types.{Fate, Done, Refused, Lapsed, Submit, Close, State, BatchEntry}
@@ -21,7 +21,7 @@ use Rattle.scheduler.specs.Answers.{callFault, accept, call}
 use Rattle.scheduler.specs.Lists.{scheduler, after}
 use Rattle.scheduler.specs.Sheet.{readSheet}
 use Rattle.scheduler.proofs.Cases.{sheetA, sheetD, sheetG, firstOn}
-use Rattle.image.specs.Layout.{imageOf, planIn, stateIn, placeOk, isImage}
+use Rattle.image.specs.Layout.{imageOf, placeOk, isImage}
 use Rattle.batch.specs.Batch.{askedBy, callsOf, answered, afterEntry, answers, batchFault, batchReply, batchEntries}
 use Rattle.batch.specs.Kept.{batchNumberOn, imageAfterBatch, entriesOn}
 

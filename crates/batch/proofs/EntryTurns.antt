@@ -7,7 +7,7 @@ use mathlib.Core.List.{List, [], _∷_}
 use mathlib.Core.Option.{Option, none, some}
 use mathlib.Core.Path.{_≡_, refl, sym, _∙_, ap}
 use lib.Dec.{ltb}
-use Rattle.batch.specs.Types.{Call, Submit, Close, CallFault, Incoherent, TooLong, Answer, Made, TurnedDown, State, Reply, BatchEntry, Answered}
+use Rattle.batch.specs.Types.{Call, Submit, Close, CallFault, Incoherent, TooLong, Answer, Made, TurnedDown, State, BatchEntry}
 use Rattle.plan.specs.Faults.{answerNumber, answerFate}
 use Rattle.plan.proofs.Tables.{row-hit, row-miss, rows-none, none-applies}
 use Rattle.scheduler.specs.Answers.{takeCall, call}
