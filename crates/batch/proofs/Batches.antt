@@ -1,6 +1,7 @@
 -- The theorems on batches: a batch is the list of its calls, its parts may be handed in one after another, and it changes no
 -- entry's kind and number.
 use Prim.Native.Nat.{ℕ, _≤_}
+use native.Mathlib.Omega.{arith}
 use borrow.Author.Tests.{le-ltb}
 use mathlib.Core.Bool.{true, false}
 use mathlib.Core.List.{List, [], _∷_, _++_, map}
@@ -8,7 +9,7 @@ use mathlib.Core.Option.{Option, none, some}
 use mathlib.Core.Path.{_≡_, refl, sym, _∙_, ap, subst}
 use mathlib.Core.Logic.{inl, inr}
 use lib.Dec.{ltb}
-use lib.ListN.{length}
+use lib.ListN.{length, length-append}
 use Rattle.plan.proofs.Tests.{either}
 use Rattle.batch.specs.Types.{Call, CallFault, TooLong, Made, State, Reply, BatchEntry}
 use Rattle.scheduler.specs.Answers.{call}
@@ -21,8 +22,8 @@ use Rattle.theory.proofs.Coherence.{call-coherent, sized-call}
 use Rattle.theory.proofs.Demands.{demand3, admitted-coherent}
 use Rattle.image.proofs.ImageCalls.{admitted-whole}
 use Rattle.batch.specs.Batch.{askedBy, callsOf, answered, afterEntry, answers, batchFault, batchReply, batchEntries, Extends, Move, one, together, moved, callsIn}
-use Rattle.batch.proofs.EntryTurns.{answered-some, answered-none, calls-some, calls-none, after-first, fault-long, fault-none}
-use Rattle.batch.proofs.BatchLoop.{reply-some, reply-none, entries-some, entries-none}
+use Rattle.batch.proofs.EntryTurns.{answered-some, answered-none, calls-some, calls-none, after-first}
+use Rattle.batch.proofs.Verdicts.{fault-long, fault-none, reply-some, reply-none, entries-some, entries-none}
 
 -- the calls of a batch in two parts, and their answers
 pub calls-parts : (es fs : List BatchEntry) → callsOf (es ++ fs) ≡ callsOf es ++ callsOf fs
@@ -90,22 +91,23 @@ module _ (s : State) (es : List BatchEntry) (h : coherent s ≡ true) (few : len
 pub batch-parts : (s : State) (es fs : List BatchEntry)
     → coherent s ≡ true
     → Sized s
-    → length es ≤ 64
-    → length fs ≤ 64
     → length (es ++ fs) ≤ 64
     → let t = batchReply s es .state in
     (batchReply s (es ++ fs) .state ≡ batchReply t fs .state) × (batchEntries s (es ++ fs) ≡ batchEntries s es ++ batchEntries t fs)
-batch-parts s es fs h z few few′ few″ =
-    let t : batchReply s es .state ≡ after scheduler s (callsOf es) = ap (λ (r : Reply). r .state) (batch-taken s es h few) in
+batch-parts s es fs h z few =
+    let n = length-append es fs in
+    let left : length es ≤ 64 = omega (arith, few, n) in
+    let right : length fs ≤ 64 = omega (arith, few, n) in
+    let t : batchReply s es .state ≡ after scheduler s (callsOf es) = ap (λ (r : Reply). r .state) (batch-taken s es h left) in
     let k : coherent (after scheduler s (callsOf es)) ≡ true = after-coherent s (callsOf es) z h in (
-      ap (λ (r : Reply). r .state) (batch-taken s (es ++ fs) h few″)
+      ap (λ (r : Reply). r .state) (batch-taken s (es ++ fs) h few)
           ∙ ap (after scheduler s) (calls-parts es fs)
           ∙ after-parts s (callsOf es) (callsOf fs)
-          ∙ ap (λ (r : Reply). r .state) (sym (batch-taken (after scheduler s (callsOf es)) fs k few′))
+          ∙ ap (λ (r : Reply). r .state) (sym (batch-taken (after scheduler s (callsOf es)) fs k right))
           ∙ ap (λ (u : State). batchReply u fs .state) (sym t),
-      batch-answers s (es ++ fs) h few″
+      batch-answers s (es ++ fs) h few
           ∙ answers-parts s es fs
-          ∙ (λ i. sym (batch-answers s es h few) i ++ sym (batch-answers (after scheduler s (callsOf es)) fs k few′) i)
+          ∙ (λ i. sym (batch-answers s es h left) i ++ sym (batch-answers (after scheduler s (callsOf es)) fs k right) i)
           ∙ ap (λ (u : State). batchEntries s es ++ batchEntries u fs) (sym t),
     )
 

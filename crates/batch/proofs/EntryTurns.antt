@@ -1,23 +1,20 @@
 -- One entry: the call that it asks for, its turn, and the states on which turns are taken.
-use Prim.Native.Nat.{ℕ, _≤_, _<_}
-use native.Mathlib.Omega.{arith}
-use borrow.Author.Tests.{not-true, not-false, eq-eqb, ne-eqb, lt-ltb, le-ltb}
-use mathlib.Core.Bool.{Bool, true, false, not}
-use mathlib.Core.List.{List, [], _∷_}
+use Prim.Native.Nat.{ℕ}
+use borrow.Author.Tests.{eq-eqb, ne-eqb}
+use mathlib.Core.Bool.{true}
+use mathlib.Core.List.{List, _∷_}
 use mathlib.Core.Option.{Option, none, some}
 use mathlib.Core.Path.{_≡_, refl, sym, _∙_, ap}
-use lib.Dec.{ltb}
-use Rattle.batch.specs.Types.{Call, Submit, Close, CallFault, Incoherent, TooLong, Answer, Made, TurnedDown, State, BatchEntry}
+use Rattle.batch.specs.Types.{Call, Submit, Close, Answer, State, BatchEntry}
 use Rattle.plan.specs.Faults.{answerNumber, answerFate}
-use Rattle.plan.proofs.Tables.{row-hit, row-miss, rows-none, none-applies}
 use Rattle.scheduler.specs.Answers.{takeCall, call}
 use Rattle.scheduler.specs.Coherent.{coherent}
 use Rattle.scheduler.specs.Lists.{scheduler, after}
 use Rattle.scheduler.specs.State.{Sized}
 use Rattle.scheduler.proofs.CallSteps.{take-call}
 use Rattle.theory.proofs.Coherence.{call-coherent, sized-call}
-use Rattle.batch.specs.Batch.{askedBy, callsOf, carrying, fateCarried, carries, answered, afterEntry, batchFault}
-use Rattle.batch.specs.Internal.Turns.{verdictOf, single, turn}
+use Rattle.batch.specs.Batch.{askedBy, callsOf, carrying, fateCarried, carries, answered, afterEntry}
+use Rattle.batch.specs.Internal.Turns.{single, turn}
 
 -- what an entry asks for, by its kind
 module _ (e : BatchEntry) where
@@ -119,42 +116,3 @@ entry-coherent s e z h = by-entry s e (λ t. coherent t ≡ true) h (λ c. call-
 
 pub entry-sized : (s : State) (e : BatchEntry) → Sized s → Sized (afterEntry s e)
 entry-sized s e z = by-entry s e Sized z (λ c. sized-call s c z)
-
--- a batch's verdict, by its rows
-module _ (s : State) (n : ℕ) where
-  pub fault-incoherent : coherent s ≡ false → batchFault s n ≡ some Incoherent
-  unfolding batchFault
-  fault-incoherent h = row-hit (not (coherent s)) Incoherent ((ltb 64 n, TooLong) ∷ []) (ap not h)
-
-  pub fault-long : coherent s ≡ true → ltb 64 n ≡ true → batchFault s n ≡ some TooLong
-  unfolding batchFault
-  fault-long h l =
-      row-miss (not (coherent s)) Incoherent ((ltb 64 n, TooLong) ∷ []) (ap not h)
-      ∙ row-hit (ltb 64 n) TooLong [] l
-
-  pub fault-none : coherent s ≡ true → ltb 64 n ≡ false → batchFault s n ≡ none
-  unfolding batchFault
-  fault-none h l =
-      row-miss (not (coherent s)) Incoherent ((ltb 64 n, TooLong) ∷ []) (ap not h)
-      ∙ row-miss (ltb 64 n) TooLong [] l
-      ∙ rows-none
-
-  -- the code's three ends
-  module _ (q : Bool) (test : q ≡ coherent s) where
-    pub judged-incoherent : not q ≡ true → record { taken = false; answer = TurnedDown Incoherent } ≡ verdictOf (batchFault s n)
-    judged-incoherent h = ap verdictOf (sym (fault-incoherent (sym test ∙ not-true q h)))
-
-    pub judged-long : not q ≡ false → 64 < n → record { taken = false; answer = TurnedDown TooLong } ≡ verdictOf (batchFault s n)
-    judged-long h l = ap verdictOf (sym (fault-long (sym test ∙ not-false q h) (lt-ltb 64 n l)))
-
-    pub judged-taken : not q ≡ false → n ≤ 64 → record { taken = true; answer = Made } ≡ verdictOf (batchFault s n)
-    judged-taken h l = ap verdictOf (sym (fault-none (sym test ∙ not-false q h) (le-ltb 64 n l)))
-
-  pub taken-coherent : batchFault s n ≡ none → coherent s ≡ true
-  unfolding batchFault
-  taken-coherent h = not-false (coherent s) (none-applies (not (coherent s)) Incoherent ((ltb 64 n, TooLong) ∷ []) h .0)
-
--- what a verdict tells
-pub taken-none : (q : Option CallFault) → verdictOf q .taken ≡ true → q ≡ none
-taken-none none h = refl
-taken-none (some f) h = let z : _≡_ {A = ℕ} 0 1 = cc in absurd (omega arith)

@@ -19,8 +19,7 @@ use Rattle.image.proofs.ImageCalls.{turned-down, images-after, after-whole, adm
 use Rattle.batch.specs.Batch.{callsOf, batchFault, batchReply, batchEntries}
 use Rattle.batch.specs.Kept.{batchNumberOn, imageAfterBatch, entriesOn, HostedBatch}
 use Rattle.batch.specs.Internal.Turns.{overfull, keptState}
-use Rattle.batch.proofs.EntryTurns.{fault-incoherent}
-use Rattle.batch.proofs.BatchLoop.{reply-some, reply-none, entries-some}
+use Rattle.batch.proofs.Verdicts.{fault-incoherent, reply-some, reply-none, entries-some}
 use Rattle.batch.proofs.Batches.{extends}
 
 -- the state that the code reads
@@ -29,13 +28,13 @@ module _ (b : List ℕ) where
   unfolding keptState
   kept-image h = rw h
 
-  pub kept-none : isImage b ≡ false → keptState b ≡ overfull (stateIn b)
+  pub kept-other : isImage b ≡ false → keptState b ≡ overfull (stateIn b)
   unfolding keptState
-  kept-none h = rw h
+  kept-other h = rw h
 
   module _ (t : State) (q : Bool) (same : t ≡ stateIn b) (test : q ≡ isImage b) where
     pub kept-spoilt : not q ≡ true → overfull t ≡ keptState b
-    kept-spoilt h = ap overfull same ∙ sym (kept-none (sym test ∙ not-true q h))
+    kept-spoilt h = ap overfull same ∙ sym (kept-other (sym test ∙ not-true q h))
 
     pub kept-read : not q ≡ false → t ≡ keptState b
     kept-read h = same ∙ sym (kept-image (sym test ∙ not-false q h))
@@ -47,17 +46,17 @@ overfull-fails s = refl
 
 -- the branches of a batch on bytes
 module _ (b : List ℕ) (es : List BatchEntry) where
-  pub number-none : isImage b ≡ false → batchNumberOn b es ≡ 12
+  pub number-other : isImage b ≡ false → batchNumberOn b es ≡ 12
   unfolding batchNumberOn
-  number-none h = rw h
+  number-other h = rw h
 
-  pub bytes-none : isImage b ≡ false → imageAfterBatch b es ≡ b
+  pub bytes-other : isImage b ≡ false → imageAfterBatch b es ≡ b
   unfolding imageAfterBatch
-  bytes-none h = rw h
+  bytes-other h = rw h
 
-  pub entries-none : isImage b ≡ false → entriesOn b es ≡ es
+  pub entries-other : isImage b ≡ false → entriesOn b es ≡ es
   unfolding entriesOn
-  entries-none h = rw h
+  entries-other h = rw h
 
   pub number-image : isImage b ≡ true → batchNumberOn b es ≡ answerNumber (batchReply (stateIn b) es .answer)
   unfolding batchNumberOn
@@ -97,7 +96,7 @@ on-bytes b es z = elim (either (isImage b)) [
   | inr h ↦
       let r = reply-some (overfull (stateIn b)) es Incoherent fails in
       let e = entries-some (overfull (stateIn b)) es Incoherent fails in
-      rw (kept-none b h, r, e) (sym (number-none b es h), sym (bytes-none b es h), sym (entries-none b es h))
+      rw (kept-other b h, r, e) (sym (number-other b es h), sym (bytes-other b es h), sym (entries-other b es h))
 ]
   where
     fails : batchFault (overfull (stateIn b)) (length es) ≡ some Incoherent
@@ -118,14 +117,14 @@ batch-leaves b es z n = elim (either (isImage b)) [
   | inl h ↦
       let t = turned-down-same (stateIn b) es (turned-down (batchReply (stateIn b) es .answer) (λ e. n (number-image b es h ∙ e))) in
       (bytes-image b es h ∙ ap imageOf (t .0) ∙ write-back b z h, entries-image b es h ∙ t .1)
-  | inr h ↦ (bytes-none b es h, entries-none b es h)
+  | inr h ↦ (bytes-other b es h, entries-other b es h)
 ]
 
 -- an image stays one, and other bytes do not become one
 pub batch-image : (b : List ℕ) (es : List BatchEntry) → isImage (imageAfterBatch b es) ≡ isImage b
 batch-image b es = elim (either (isImage b)) [
   | inl h ↦ ap isImage (bytes-image b es h) ∙ image-is (batchReply (stateIn b) es .state) ∙ sym h
-  | inr h ↦ ap isImage (bytes-none b es h)
+  | inr h ↦ ap isImage (bytes-other b es h)
 ]
 
 -- a batch on the image of a state

@@ -1,6 +1,6 @@
 -- `judge` meets its contract.
 use native.Mathlib.Omega.{arith}
-use Rattle.batch.proofs.EntryTurns.{judged-incoherent, judged-long, judged-taken}
+use Rattle.batch.proofs.Verdicts.{judged-incoherent, judged-long, judged-taken}
 use borrow.Author.Needs.{needs}
 use Rattle.batch.proofs.batch.judge.Statement.{statement}
 use Rattle.batch.proofs.batch.judge.Tie as tie

@@ -54,7 +54,8 @@ use Rattle.batch.specs.Batch.{batchFault}
 use Rattle.batch.specs.Internal.Turns.{verdictOf, turn}
 use Rattle.scheduler.proofs.Sizes.{sized}
 use Rattle.walks.specs.Called.{Its, calls-known, later, lone, is-false}
-use Rattle.batch.proofs.BatchLoop.{noEntry, Folds, Right, begins, goes-on, stops, fine, turned-down, starts}
+use Rattle.batch.proofs.BatchLoop.{noEntry, Underway, begins, goes-on, stops}
+use Rattle.batch.proofs.Verdicts.{Gives, gives-taken, gives-down, starts}
 use Rattle.scheduler.proofs.state.State as S
 use Rattle.scheduler.proofs.state.State.Laws as S′
 use Rattle.scheduler.proofs.reply.Reply as O
@@ -179,7 +180,7 @@ module _ {M : Type 1} (𝓤 : URA M) (H : Heap 𝓤) (A : Atoms 𝓤) (W : Given
   abbrev to-reply : State → Its 𝓤 H A reply-of.ended (reply-of.clauses 𝓤 H A mem run) .Ghost
   to-reply x = ((tt, tt, tt, (j, (x, tt)), (valJ j ∷ [], (valS x ∷ [], tt))), tt)
 
-  exits : (x : State) (zs : List BatchEntry) → Room P.the-row (length ys) → IsS s → Is O.the-row (out x) (valO (out x) ∷ []) → length zs ≡ length ys → Right s ys x zs
+  exits : (x : State) (zs : List BatchEntry) → Room P.the-row (length ys) → IsS s → Is O.the-row (out x) (valO (out x) ∷ []) → length zs ≡ length ys → Gives s ys x zs
       → ent 𝓤 (⋆ 𝓤 H A (‵ (Obs zs) ∷ ‵ (fbor κ (Held P.the-row (length zs) b o γ)) ∷ ‵ (flft κ q) ∷ [])) (Post (valO (out x)))
   exits x zs room is is′ l e =
       qed W (‵ (Obs zs) ∷ ‵ (fbor κ (Held P.the-row (length zs) b o γ)) ∷ ‵ (flft κ q) ∷ []) ∵
@@ -191,7 +192,7 @@ module _ {M : Type 1} (𝓤 : URA M) (H : Heap 𝓤) (A : Atoms 𝓤) (W : Given
       owned ! O.the-row (Is O.the-row) (makesO) (out x) _ is′ $ done !
 
   -- where the list is turned down: what was passed is still owned
-  exits-down : Is O.the-row (out s) (valO (out s) ∷ []) → Right s ys s ys → ent 𝓤 (onEntry 𝓤 H A f.signature (κ, tt) (q, tt) a vals) (Post (valO (out s)))
+  exits-down : Is O.the-row (out s) (valO (out s) ∷ []) → Gives s ys s ys → ent 𝓤 (onEntry 𝓤 H A f.signature (κ, tt) (q, tt) a vals) (Post (valO (out s)))
   exits-down is e =
       qed W ((‵ (flft κ q) ⊛ ‵ ftrue) ∷ ‵ (owns (S.the-row ∷ MutSlice (named 0) κ P.the-row ∷ []) a vals) ∷ []) ∵
       suffices ! _ (ends-at 𝓤 H A f.ended stayed (f.clauses 𝓤 H A mem run) W (((κ, tt), (q, tt), tt, a, vals), tt) (valO (out s)) (out s) (tt, (ys, tt)) (tt, (refl, tt))) $ says ! e $
@@ -203,7 +204,7 @@ module _ {M : Type 1} (𝓤 : URA M) (H : Heap 𝓤) (A : Atoms 𝓤) (W : Given
     pub state : State
     pub list : List BatchEntry
     pub is : IsS state
-    pub folds : Folds s ys at state list
+    pub underway : Underway s ys at state list
 
   abbrev Nearer : Turn → Turn → Type 0
   Nearer y x = length ys - y .at < length ys - x .at
@@ -269,7 +270,7 @@ module _ {M : Type 1} (𝓤 : URA M) (H : Heap 𝓤) (A : Atoms 𝓤) (W : Given
         r = turn (x .state) e
 
         within : Holds (ltb i (length ys)) → i < length zs
-        within less = rw (x .folds .long) (ltb→lt i (length ys) less)
+        within less = rw (x .underway .long) (ltb→lt i (length ys) less)
 
         scaled : Holds (ltb i (length ys)) → i * 4 < 2 ^ 64
         scaled less = omega (arith, room .1, ltb→lt i (length ys) less)
@@ -289,7 +290,7 @@ module _ {M : Type 1} (𝓤 : URA M) (H : Heap 𝓤) (A : Atoms 𝓤) (W : Given
         entryIs h = LL.owed B.the-type B′.the-laws r _ h .1 .0
 
         abbrev next-turn : Holds (ltb i (length ys)) → IsS (r .state) → Turn
-        next-turn less is′ = record { at = i + 1; state = r .state; list = set zs i (r .entry); is = is′; folds = goes-on s ys i (x .state) zs (x .folds) (ltb→lt i (length ys) less) }
+        next-turn less is′ = record { at = i + 1; state = r .state; list = set zs i (r .entry); is = is′; underway = goes-on s ys i (x .state) zs (x .underway) (ltb→lt i (length ys) less) }
 
         turns : Sq W (At x) (runs C Λ En mir′.turn-1 (anyQ (Turned x)))
         unfolding afterTurn
@@ -321,7 +322,7 @@ module _ {M : Type 1} (𝓤 : URA M) (H : Heap 𝓤) (A : Atoms 𝓤) (W : Given
             assigns-last ! (bin ! (load ! (from ! (stop !)) (look ! 22 refl)) (lit ! tt) (record { fits = next-fits less })) (from ! (stop !)) (store ! 22 refl (tt, record { fits = next-fits less })) $
             forget ! 4 refl $ forget ! 6 refl $ forget ! 8 refl $ forget ! 10 refl $ forget ! 12 refl $ forget ! 18 refl $ forget ! 20 refl $
             again ! Nearer At x (next-turn less (stateIs isB)) (nearer less))))
-            (λ over. jumps ! $ exec ! C Λ En mir′.t-8 (atRet En Post) $ closes-slice ! tt P.the-row ys zs (x .folds .long) b o $ nothing ! $
+            (λ over. jumps ! $ exec ! C Λ En mir′.t-8 (atRet En Post) $ closes-slice ! tt P.the-row ys zs (x .underway .long) b o $ nothing ! $
             -- [true; obs; the borrow; the token; _14; …]
             calls-known ! fm reply-of.ended (reply-of.clauses 𝓤 H A mem run) (known .of-reply) (to-reply (x .state)) (out (x .state)) (valO (out (x .state))) (‵ ftrue)
             (lone 𝓤 (owns-make 𝓤 H A (J.the-row ∷ S.the-row ∷ []) _ (makesJ, (makesS, tt)) (j, (x .state, tt)) (valJ j ∷ [], (valS (x .state) ∷ [], tt)) (isJ, (x .is, tt))))
@@ -334,7 +335,7 @@ module _ {M : Type 1} (𝓤 : URA M) (H : Heap 𝓤) (A : Atoms 𝓤) (W : Given
             move ! (23 ∷ 24 ∷ []) $ free1 ! $ move ! (21 ∷ 22 ∷ []) $ free1 ! $ move ! (19 ∷ 20 ∷ []) $ free1 ! $ move ! (17 ∷ 18 ∷ []) $ free1 ! $
             move ! (15 ∷ 16 ∷ []) $ free1 ! $ move ! (13 ∷ 14 ∷ []) $ free1 ! $ move ! (11 ∷ 12 ∷ []) $ free1 ! $ move ! (9 ∷ 10 ∷ []) $ free1 ! $
             move ! (7 ∷ 8 ∷ []) $ free1 ! $ move ! (5 ∷ 6 ∷ []) $ free1 ! $ move ! (3 ∷ 4 ∷ []) $ free1 ! $ free0 ! $
-            by ! (exits (x .state) zs room isS isO (x .folds .long) (fine s ys (x .state) zs go (stops s ys i (x .state) zs (x .folds) (nltb→le i (length ys) over))))))
+            by ! (exits (x .state) zs room isS isO (x .underway .long) (gives-taken s ys (x .state) zs go (stops s ys i (x .state) zs (x .underway) (nltb→le i (length ys) over))))))
 
       looped : (x : Turn) → Sq W (At x) (runs C Λ En (loop mir′.turn-1) (anyQ Left))
       looped x = loops ! 𝓣 Nearer Nearer-wf At turns x
@@ -373,13 +374,13 @@ module _ {M : Type 1} (𝓤 : URA M) (H : Heap 𝓤) (A : Atoms 𝓤) (W : Given
         move ! (20 ∷ 21 ∷ []) $ free1 ! $ move ! (18 ∷ 19 ∷ []) $ free1 ! $ move ! (16 ∷ 17 ∷ []) $ free1 ! $ move ! (14 ∷ 15 ∷ []) $ free1 ! $
         move ! (12 ∷ 13 ∷ []) $ free1 ! $ move ! (10 ∷ 11 ∷ []) $ free1 ! $ move ! (8 ∷ 9 ∷ []) $ free1 ! $ move ! (6 ∷ 7 ∷ []) $ free1 ! $
         move ! (4 ∷ 5 ∷ []) $ free1 ! $ move ! (2 ∷ 3 ∷ []) $ free1 ! $ move ! (0 ∷ 1 ∷ []) $ free1 ! $ free0 ! $
-        by ! (exits-down isO (turned-down s ys (is-false (j .taken) down)))))
+        by ! (exits-down isO (gives-down s ys (is-false (j .taken) down)))))
         (λ go. skips ! $ exec ! C Λ En mir′.t-5 (atRet En Post) $ forget ! 10 refl $ forget ! 12 refl $
         assigns ! (of-opd ! (load ! (from ! (stop !)) (look ! 26 refl))) (from ! (stop !)) (init ! 20 refl (typedS s isS)) $
         assigns ! (of-opd ! (lit ! tt)) (from ! (stop !)) (init ! 18 refl (tt, record { fits = lit< tt })) $
         move ! (31 ∷ []) $ fsplit ! $ drop ! $ fsplit ! $ fsplit3 ! $ drop ! $ move ! (33 ∷ []) $ split ! $ move ! (2 ∷ 3 ∷ 0 ∷ []) $
         opens-slice ! tt P.the-row ys b o $ move ! (4 ∷ []) $ drop ! $ move ! (4 ∷ []) $ drop ! $
-        first ! $ blocks ! $ looped (opened go) isJ (record { at = 0; state = s; list = ys; is = isS; folds = begins s ys (starts s ys (opened go)) (sized s isS) })))
+        first ! $ blocks ! $ looped (opened go) isJ (record { at = 0; state = s; list = ys; is = isS; underway = begins s ys (starts s ys (opened go)) (sized s isS) })))
 
   walk : (𝓣 : Tables 𝓤 H) → FmC 𝓤 H (W .laws) (𝓣 .C) → Known 𝓤 H A mem run (𝓣 .C) → IsS s → Room P.the-row (length ys)
       → ent 𝓤 (onEntry 𝓤 H A f.signature (κ, tt) (q, tt) a vals) (WpFn 𝓤 H (𝓣 .C) (𝓣 .Λ) code.function (valS s ∷ v ∷ []) Post)

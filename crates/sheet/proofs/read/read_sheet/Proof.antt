@@ -25,7 +25,8 @@ use contract.Monad.{Fun, fact, factI}
 use contract.Running.{givenOf, tables, tablesOf}
 use types.Kit.{Given, Item, ‵, raw, _⊛_, ⋆, Sq, runs, params′, anyQ, atRet, _$_, _∵_, !, qed, by, move, drop, use1, split, join, fsplit, fjoin, rewrite, suffices, frame, done}
 use types.Part.{whole, sub, look-in, store-in}
-use types.Run.{look, store, init, forget, stop, hop, fld, from, load, lit, of-opd, and-then, no-more, bin, un, addr, assigns, assigns-last, land, first, branches, skips, blocks, exec, Below, again, loops, returns-within, enter, alloc1, alloc0, params1, pass1, pass0, free1, free0}
+use types.Run.{look, store, init, forget, stop, hop, fld, from, load, lit, of-opd, and-then, no-more, bin, un, addr}
+use types.Run.{assigns, assigns-last, land, first, branches, skips, blocks, exec, Below, again, loops, returns-within, enter, alloc1, alloc0, params1, pass1, pass0, free1, free0}
 use sound.WpLaws.{FmC, fmOf, WpFn-mono}
 use denote.RattleType.{owns}
 use denote.Laws.{Is, shows, owns-make}
@@ -312,7 +313,11 @@ module _ {M : Type 1} (𝓤 : URA M) (H : Heap 𝓤) (A : Atoms 𝓤) (W : Given
         ∷ ‵ (froom R′.mir l₀ 0) ∷ ‵ (fdies R′.mir l₀) ∷ []
 
     abbrev At : Turn → List (Item 𝓤)
-    At x = ‵ (OwnR (x .place)) ∷ raw Tok ∷ ‵ Own ∷ Cells (froom tyBool l₂₂ 0) (froom (T′.mir erased) l₁₅ 0) (froom tyBool l₁₃ 0) (froom word l₁₂ 0) (froom word l₁₁ 0) (froom P′.mir l₁₀ 0) (froom (T′.mir erased) l₉ 0) (froom J′.mir l₅ 0) (froom S′.mir l₄ 0) (fat fullShare P′.mir l₃ 0 (P′.lowered (x .plan))) (fat fullShare (T′.mir erased) l₂ 0 (T′.lowered (rd (x .place))))
+    At x =
+        ‵ (OwnR (x .place)) ∷ raw Tok ∷ ‵ Own
+        ∷ Cells (froom tyBool l₂₂ 0) (froom (T′.mir erased) l₁₅ 0) (froom tyBool l₁₃ 0) (froom word l₁₂ 0) (froom word l₁₁ 0)
+        (froom P′.mir l₁₀ 0) (froom (T′.mir erased) l₉ 0) (froom J′.mir l₅ 0) (froom S′.mir l₄ 0)
+        (fat fullShare P′.mir l₃ 0 (P′.lowered (x .plan))) (fat fullShare (T′.mir erased) l₂ 0 (T′.lowered (rd (x .place))))
 
     -- once the loop is left, the rest of the body runs
     abbrev Left′ : Out → SProp 𝓤
@@ -505,7 +510,8 @@ module _ {M : Type 1} (𝓤 : URA M) (H : Heap 𝓤) (A : Atoms 𝓤) (W : Given
           calls-known ! fm add-events.ended (add-events.clauses 𝓤 H A mem run) (known .of-events) (to-events p (rec .x)) q₄ (P′.lowered q₄) (‵ ftrue)
           (asking 𝓤 (eventCount p + 4 ≤ 16) (owns-make 𝓤 H A (P.the-row ∷ u8 ∷ []) _ (LL.makes P.the-type P′.the-plain 𝓤 H A, (uint-makes 𝓤 H A W w8, tt))
           (p, (rec .x, tt)) (P′.lowered p ∷ [], (vint w8 (rec .x) ∷ [], tt)) (x .is, ((refl, typedS rec isS .1 .1 .0 .fits), tt))) (four-left goes other h))
-          (λ r ws. id⊢ 𝓤 _) (P′.lowers .val-is q₄) (and-then ! (load ! (from ! (stop !)) (look ! 16 refl)) (and-then ! (load ! (from ! (fld ! refl (stop !))) (look-in ! 56 (sub ! 1 refl (whole !)))) (no-more !))) (λ isF.
+          (λ r ws. id⊢ 𝓤 _) (P′.lowers .val-is q₄)
+          (and-then ! (load ! (from ! (stop !)) (look ! 16 refl)) (and-then ! (load ! (from ! (fld ! refl (stop !))) (look-in ! 56 (sub ! 1 refl (whole !)))) (no-more !))) (λ isF.
           land ! (from ! (stop !)) (init ! 19 refl (typedP q₄ isF)) $ drop ! $ drop ! $
           assigns-last ! (of-opd ! (load ! (from ! (stop !)) (look ! 17 refl))) (from ! (stop !)) (store ! 57 refl (typedP q₄ isF)) $
           forget ! 15 refl $ forget ! 17 refl $ forget ! 19 refl $ forget ! 33 refl $ forget ! 37 refl $ forget ! 39 refl $ forget ! 41 refl $

@@ -46,7 +46,7 @@ use Rattle.scheduler.specs.declared.reply.Reply.{Reply}
 use Rattle.batch.specs.declared.entry.BatchEntry.{BatchEntry}
 use Rattle.batch.specs.Batch.{batchReply, batchEntries}
 use Rattle.batch.specs.Internal.Turns.{keptState}
-use Rattle.batch.proofs.BatchLoop.{entries-long}
+use Rattle.batch.proofs.Verdicts.{entries-long}
 use Rattle.batch.proofs.KeptBatches.{noted, OnBytes, on-bytes}
 use Rattle.walks.specs.Called.{Its, calls-known, calls-known-mut, lone, both-had, had-beside}
 use Rattle.scheduler.proofs.state.State as S
