@@ -8,3 +8,4 @@ pub mod RuleSets
 pub mod Blocking
 pub mod Targets
 pub mod Growing
+pub mod Sparing

@@ -2,3 +2,4 @@
 pub mod Prelude
 pub mod Sets
 pub mod Growing
+pub mod Lacking

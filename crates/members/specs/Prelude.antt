@@ -11,6 +11,7 @@ pub use Rattle.plan.specs.declared.fate.Fate.{Fate}
 pub use Rattle.plan.specs.declared.fate.Standing.{Standing}
 pub use Rattle.plan.specs.declared.event.Event.{Event}
 pub use Rattle.plan.specs.declared.rule.Rule.{Rule}
+pub use Rattle.plan.specs.declared.rule.Rule.the-variants.{Order, Need, Conditional}
 pub use Rattle.plan.specs.declared.rule.RuleLine.{RuleLine}
 pub use Rattle.plan.specs.declared.plan.Plan.{Plan}
 pub use Rattle.members.specs.declared.view.View.{View}

@@ -2,6 +2,7 @@
 // one pass over the rules for each question. What it promises stands in specs/ here and in `orders`.
 pub mod blocked;
 pub mod closed;
+pub mod lacking;
 pub mod rule;
 pub mod set;
 pub mod view;

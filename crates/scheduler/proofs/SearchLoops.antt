@@ -6,6 +6,7 @@ use native.Mathlib.Decide.{ℕ-discrete}
 use borrow.Author.Tests.{lt-ltb, ltb-true}
 use mathlib.Core.Bool.{Bool, true, false, not, _&&_, _||_}
 use mathlib.Core.List.{List, [], _∷_}
+use mathlib.Core.Logic.{inl, inr}
 use mathlib.Core.Option.{Option, none, some, Option·map}
 use mathlib.Core.Path.{_≡_, refl, sym, _∙_, ap, subst, fun-ext}
 use lib.Dec.{eqb, ltb}
@@ -14,12 +15,14 @@ use Rattle.scheduler.specs.declared.order.Found.{Found}
 use Rattle.scheduler.specs.Prelude.{take, State}
 use Rattle.plan.specs.Fates.{Fates}
 use Rattle.plan.specs.Base.{tabulate, lowest}
+use Rattle.orders.specs.Closed.{Events}
 use Rattle.orders.specs.Runs.{doing}
 use Rattle.orders.specs.Stepwise.{blocked, less, nothing, next, stepwise}
 use Rattle.members.specs.declared.closed.Members.{Members}
 use Rattle.members.specs.declared.view.View.{View}
 use Rattle.members.specs.Sets.{inSet, orSixteen, Shows}
 use Rattle.members.specs.Growing.{Closes}
+use Rattle.members.specs.Lacking.{Spared}
 use Rattle.scheduler.specs.State.{fateOf, settleAs, Sized}
 use Rattle.scheduler.specs.Rules.{stands}
 use Rattle.scheduler.specs.Orders.{doOne, chosen, noOrder, foundOrder}
@@ -27,7 +30,7 @@ use Rattle.scheduler.specs.Internal.Hopeful.{Hopeful}
 use Rattle.scheduler.specs.Internal.Placed.{placed, foundFrom}
 use Rattle.plan.specs.Plans.{eventCount}
 use Rattle.plan.specs.Rules.{ready}
-use Rattle.plan.proofs.Tests.{and-left, and-right, and-both, clash}
+use Rattle.plan.proofs.Tests.{and-left, and-right, and-both, clash, either}
 use Rattle.orders.proofs.Grounds.{refuted}
 use Rattle.orders.proofs.Lowest.{lowest-some, lowest-none, lowest-alike}
 use Rattle.orders.proofs.Taking.{less-in, less-stays, none-nothing, some-left, step-ends, step-full, step-stuck, step-takes}
@@ -180,6 +183,17 @@ module _ (s : State) (left at places : ℕ) where
             go zero q = absurd (some-place q)
             go (suc k) q = rw (q, sub-one) (step-takes (s .plan) (stands s) k (fateOf s) (inSet left) x more (next-same ∙ lowest-below (inSet d) x same lt))
 
+        -- it is the last: the order ends with it
+        pub search-last : (y : ℕ)
+            → y ≡ orSixteen (lowest 16 (inSet after))
+            → y ≡ 16
+            → _≡_ {A = Found} (record { ok = true; events = set (replicate 6 0) at x; len = at + 1 }) (foundFrom at steps)
+        unfolding foundFrom placed
+        search-last y low q =
+            let empty = none-nothing (inSet after) (lowest-none 16 (inSet after) (lowest-sixteen (inSet after) y low q)) in
+            let ends = step-ends (s .plan) (stands s) (places - 1) (doing (fateOf s) x) (less (inSet left) x) (sym (ap nothing (after-less left x lt one after is-one is-after)) ∙ empty) in
+            ap (foundFrom at) (sym (steps-take ∙ ap (Option·map (λ (o : List ℕ). x ∷ o)) ends))
+
         module _ (r : Found) (found : r ≡ foundFrom (at + 1) (stepwise ((doOne s x) .plan) (stands (doOne s x)) (places - 1) (fateOf (doOne s x)) (inSet after))) where
           found-later : r ≡ foundFrom (at + 1) later
           found-later = found ∙ ap (foundFrom (at + 1)) later-same
@@ -226,6 +240,22 @@ hopeful-all s v w = record {
       (ltb-true x (eventCount (s .plan)) (and-left (ltb x (eventCount (s .plan))) (ready (s .plan) (fateOf s) x) t), and-right (ltb x (eventCount (s .plan))) (ready (s .plan) (fateOf s) x) t);
   others = λ x lt r n. absurd (clash (w .able x ∙ and-both (ltb x (eventCount (s .plan))) (ready (s .plan) (fateOf s) x) (lt-ltb x (eventCount (s .plan)) lt) r) n);
 }
+
+-- and what one pass over the rules leaves of them
+pub hopeful-spared : (s : State) (v : View) (left : Events)
+    → Sized s
+    → Shows (s .plan) (fateOf s) v
+    → Spared (s .plan) (stands s) (fateOf s) (inSet (v .able)) left
+    → Hopeful s left
+hopeful-spared s v left z w spared =
+    let all = hopeful-all s v w in
+    record {
+      hand = λ x h. all .hand x (spared .within x h);
+      others = λ x lt r out. elim (either (inSet (v .able) x)) [
+        | inl t ↦ no-fit-none s z x (inSet (v .able)) all (spared .dropped x t out)
+        | inr t ↦ all .others x lt r t
+      ];
+    }
 
 -- an event that has no order is remembered
 pub hopeful-less : (s : State) (able one after e : ℕ)

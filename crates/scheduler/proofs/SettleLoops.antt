@@ -6,6 +6,7 @@ use native.Mathlib.Decide.{decLt}
 use borrow.Author.Tests.{lt-ltb, le-ltb}
 use mathlib.Core.Bool.{Bool, true, false, _&&_, _||_, and-false, or-false, and-assoc}
 use mathlib.Core.List.{List, [], _∷_}
+use mathlib.Core.Logic.{inl, inr}
 use mathlib.Core.Option.{Option, none, some, Option·map}
 use mathlib.Core.Path.{_≡_, refl, sym, _∙_, ap, fun-ext}
 use lib.Dec.{eqb, ltb}
@@ -16,7 +17,7 @@ use Rattle.scheduler.specs.declared.settle.Turned.{Turned}
 use Rattle.scheduler.specs.Prelude.{Fate, Refused, Rule, Order, Need, Conditional, State}
 use Rattle.plan.specs.Base.{anyBelow, firstOf, when, lowest}
 use Rattle.plan.specs.Plans.{eventCount, ruleCount, ruleAt}
-use Rattle.plan.specs.Rules.{bars}
+use Rattle.plan.specs.Rules.{bars, ready}
 use Rattle.orders.specs.Stepwise.{follows, blocked}
 use Rattle.members.specs.declared.view.View.{View}
 use Rattle.members.specs.Sets.{inSet, orSixteen, Shows}
@@ -25,8 +26,9 @@ use Rattle.scheduler.specs.State.{fateOf, settleAs}
 use Rattle.plan.specs.Fates.{isHeld, isDone, isGone}
 use Rattle.scheduler.specs.Rules.{stands, barred}
 use Rattle.scheduler.specs.Calls.{toRefuse, toDo, settleOnce, settleUpTo, settle, refuseHeld, finish}
+use Rattle.scheduler.specs.Internal.Hopeful.{Hopeful}
 use Rattle.scheduler.specs.Internal.Turned.{turnOf}
-use Rattle.plan.proofs.Tests.{and-left, clash, any-none, first-some, when-some, some-none}
+use Rattle.plan.proofs.Tests.{and-left, and-not, clash, either, any-false, any-none, first-some, when-some, some-none}
 use Rattle.scheduler.proofs.Branches.{upTo-none, upTo-some, lowestHeld, refuse-none, refuse-some}
 use Rattle.plan.proofs.Loops.{Rest, first-here, first-end}
 use Rattle.scheduler.proofs.Searching.{chosen-short}
@@ -182,8 +184,23 @@ module _ (s : State) (e : ℕ) where
   pub doing-hopeless : isHeld (fateOf s e) ≡ true → chosen s e ≡ none → doing ≡ none
   doing-hopeless h q = rw (h, q)
 
-  pub doing-none : isHeld (fateOf s e) ≡ false → doing ≡ none
+  doing-none : isHeld (fateOf s e) ≡ false → doing ≡ none
   doing-none h = rw h
+
+-- an event that is not held, or not worth a search, has none to be done
+pub doing-passed : (s : State) (v : View) (able e : ℕ)
+    → Shows (s .plan) (fateOf s) v
+    → Hopeful s (inSet able)
+    → e < eventCount (s .plan)
+    → (inSet (v .held) e && inSet able e) ≡ false
+    → doing s e ≡ none
+unfolding ready
+doing-passed s v able e w k lt h = elim (either (inSet (v .held) e)) [
+  | inl t ↦
+      let held = held-seen s v w e lt (inSet (v .held) e) true refl t in
+      doing-hopeless s e held (k .others e lt (rw held) (and-not (inSet (v .held) e) (inSet able e) h t))
+  | inr t ↦ doing-none s e (held-seen s v w e lt (inSet (v .held) e) false refl t)
+]
 
 -- the loop over the held events, at its ends
 module _ (s : State) (e : ℕ) (before : Rest (eventCount (s .plan)) (doing s) e) where
@@ -328,6 +345,11 @@ pub refuse-end : (n : ℕ) (s : State) → n ≤ 0 → refuseHeld n s ≡ s
 unfolding refuseHeld
 refuse-end zero s le = refl
 refuse-end (suc n) s le = absurd (omega arith)
+
+-- settling where nothing is held
+pub settle-unheld : (s : State) → anyBelow (eventCount (s .plan)) (λ e. isHeld (fateOf s e)) ≡ false → settle s ≡ s
+unfolding settle
+settle-unheld s h = up-rest s 16 (unheld-turned s (any-false (eventCount (s .plan)) (λ e. isHeld (fateOf s e)) h))
 
 -- winding up where nothing is held
 pub finish-unheld : (s : State) → ((x : ℕ) → x < eventCount (s .plan) → isHeld (fateOf s x) ≡ false) → finish s ≡ s

@@ -227,7 +227,8 @@ impl State {
         self.do_alone(event)
     }
 
-    // The state after a hand-in that is taken.
+    // The state after a hand-in that is taken. An event that is not delayable is decided at once; where nothing is held
+    // then, there is nothing to settle.
     fn after_submit(self, event: u8) -> State
         ensures { λ r. ⌜ r ≡ submit self event ⌝ }
     {
@@ -249,7 +250,10 @@ impl State {
             return held.settle();
         }
         let decided = held.decide(event);
-        decided.settle()
+        if decided.has_held() {
+            return decided.settle();
+        }
+        decided
     }
 
     // The step's open events lapse, lowest first. Past the places stand blanks: open, and of step 0.
@@ -278,13 +282,16 @@ impl State {
         next
     }
 
-    // The state after a closing that is taken.
+    // The state after a closing that is taken. Where nothing is held there is nothing to settle.
     fn after_close(self, step: u8) -> State
         ensures { λ r. ⌜ r ≡ closeStep self step ⌝ }
     {
         let shut = self.shut(step);
         let lapsed = shut.lapse_step(step);
-        lapsed.settle()
+        if lapsed.has_held() {
+            return lapsed.settle();
+        }
+        lapsed
     }
 
     // Refuses the lowest held event, and settles.

@@ -81,7 +81,7 @@ impl State {
 
 // The events that are left, always the lowest that no other of them has to come before; none if there is no such event,
 // or no place. It goes on an order of `at` events: its own stand at `at` and after, and the length counts both. The view is
-// the state's.
+// the state's. After the last event the search need not call itself.
 fn search(s: State, view: View, left: u32, at: u8, places: u8) -> Found
     requires { ⌜ ((at + places ≤ 6) × Shows (s .plan) (fateOf s) view) ⌝ }
     ensures { λ r. ⌜ r ≡ foundFrom at (stepwise (s .plan) (stands s) places (fateOf s) (inSet left)) ⌝ }
@@ -108,6 +108,15 @@ fn search(s: State, view: View, left: u32, at: u8, places: u8) -> Found
     let x = lowest_of(without(left, blocked_in(rules, broken, plan.rule_count, view, left)));
     if x < 16 {
         let rest = without(left, with_if(0, x, true));
+        if lowest_of(rest) == 16 {
+            let mut last = Found {
+                ok: true,
+                events: blank,
+                len: at + 1,
+            };
+            last.events[at as usize] = x;
+            return last;
+        }
         let r = search(s.do_one(x), view_after(view, x), rest, at + 1, places - 1);
         if r.ok {
             let mut q = r;

@@ -3,6 +3,7 @@ use super::order::Found;
 use super::state::State;
 use members::blocked::blocked_in;
 use members::closed::close_set;
+use members::lacking::spare;
 use members::set::common;
 use members::set::is_in;
 use members::set::lowest_of;
@@ -11,10 +12,11 @@ use members::set::without;
 use members::view::View;
 use plan::fate::Fate;
 ghost use mathlib.Core.Path.{_≡_};
-ghost use Rattle.members.specs.Sets.{orSixteen, Shows};
+ghost use Rattle.members.specs.Sets.{inSet, orSixteen, Shows};
 ghost use Rattle.scheduler.specs.State.{fateOf};
 ghost use Rattle.scheduler.specs.Orders.{foundOrder};
 ghost use Rattle.scheduler.specs.Calls.{toRefuse, toDo, settle};
+ghost use Rattle.scheduler.specs.Internal.Hopeful.{Hopeful};
 
 // Whether there was a turn to make, and the state after it.
 pub(crate) struct Turned {
@@ -70,6 +72,22 @@ impl State {
         lowest_of(common(view.held, barred))
     }
 
+    // The events at hand that are worth a search; where several events are held, one pass over the rules tells of some
+    // that are not.
+    fn find_hopeful(self, view: View) -> u32
+        requires { ⌜ Shows (self .plan) (fateOf self) view ⌝ }
+        ensures { λ r. ⌜ Hopeful self (inSet r) ⌝ }
+    {
+        let one = with_if(0, lowest_of(view.held), true);
+        if one == view.held {
+            return view.able;
+        }
+        let plan = self.plan;
+        let rules = plan.rules;
+        let broken = self.broken;
+        spare(rules, broken, plan.rule_count, view)
+    }
+
     // The chosen order of the lowest held event that has one. An event that has none is in no order for another, so it
     // counts no more as able in this turn.
     fn find_held(self, view: View) -> Found
@@ -81,10 +99,10 @@ impl State {
         let broken = self.broken;
         let count = plan.rule_count;
         let n = plan.event_count;
-        let mut able = view.able;
+        let mut able = self.find_hopeful(view);
         let mut e: u8 = 0;
         while e < n {
-            if is_in(view.held, e) {
+            if is_in(common(view.held, able), e) {
                 let members = close_set(rules, broken, count, view, able, e);
                 if members.ok {
                     let found = self.find_among(view, members.set);

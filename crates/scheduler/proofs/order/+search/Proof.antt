@@ -11,7 +11,7 @@ use Rattle.members.proofs.set.without.Reads as without-reads
 use Rattle.members.proofs.view.view_after.Reads as view-after-reads
 use Rattle.scheduler.specs.State.{fateOf}
 use Rattle.scheduler.proofs.Sizes.{sized}
-use Rattle.scheduler.proofs.SearchLoops.{search-end, search-more, search-full, search-stuck, Onward, search-on, shows-one}
+use Rattle.scheduler.proofs.SearchLoops.{search-end, search-more, search-full, search-stuck, search-last, Onward, search-on, shows-one}
 use Rattle.scheduler.proofs.order.search.Reads as search′
 use Rattle.scheduler.proofs.order.search.Kinds as search-kinds
 use Rattle.scheduler.proofs.order.+search.Lts-search as search-lts
@@ -67,6 +67,31 @@ module _ (t : ℕ) where
   search-without-requires-2 : search-lts.Need-without-requires-2 (claims t) (search-at t) search′.Post
   search-without-requires-2 c κs = tt
 
+  search-lowest-of-requires-3 : search-lts.Need-lowest-of-requires-3 (claims t) (search-at t) search′.Post
+  search-lowest-of-requires-3 c κs = tt
+
+  -- places of the code on which an event is taken: where the search starts, where it has a place, and the event
+  abbrev Taken : Type 0
+  Taken = search-lts.After-without2 (claims t) (search-at t) search′.Post
+
+  abbrev begun : Taken → search-lts.Start (claims t) (search-at t) search′.Post
+  begun c = c .before .before .before .before .before .before .before .before .before .before .before .before
+
+  abbrev placed-here : Taken → search-lts.Else2 (claims t) (search-at t) search′.Post
+  placed-here c = c .before .before .before .before .before .before .before .before .before
+
+  abbrev event : Taken → ℕ
+  event c = c .before .before .before .lowest-of2 .result
+
+  at-low : (c : Taken) → begun c .args .at < 6
+  at-low c = omega (arith, begun c .pre .1 .0, placed-here c .if2 .left)
+
+  search-add-t23 : search-lts.Need-add-t23 (claims t) (search-at t) search′.Post
+  search-add-t23 c = omega (arith, at-low (c .before .before))
+
+  search-element-write-last : search-lts.Need-element-write-last (claims t) (search-at t) search′.Post
+  search-element-write-last c = omega (arith, at-low (c .before .before))
+
   search-do-one-requires : search-lts.Need-do-one-requires (claims t) (search-at t) search′.Post
   search-do-one-requires c κs = tt
 
@@ -74,42 +99,64 @@ module _ (t : ℕ) where
   search-view-after-requires c κs = tt
 
   search-add-search : search-lts.Need-add-search (claims t) (search-at t) search′.Post
-  search-add-search c = omega (arith, c .before .before .before .before .before .before .before .before .before .before .before .before .before .before .pre .1 .0)
+  search-add-search c = omega (arith, at-low (c .before .before .before .before))
 
   search-sub-search : search-lts.Need-sub-search (claims t) (search-at t) search′.Post
-  search-sub-search c = omega (arith, c .before .before .before .before .before .before .before .before .before .before .before .if2 .left)
+  search-sub-search c = omega (arith, placed-here (c .before .before .before .before) .if2 .left)
 
   search-search-requires : search-lts.Need-search-requires (claims t) (search-at t) search′.Post
   search-search-requires c κs =
       let taken = c .before .before .before .before in
-      let more = taken .before .before .before .before .before .before .before in
-      let st = more .before .before .before in
+      let st = begun taken in
       let s = st .args .s in
-      let lt = taken .if3 .taken in
+      let lt = taken .before .before .if3 .taken in
       let shown = c .view-after .ensures (s .plan) (fateOf s) lt (st .pre .1 .1) in
       let z = sized s (st .good .0) in (
-        omega (arith, more .if2 .left),
-        (omega (arith, st .pre .1 .0, more .if2 .left), rw (c .before .do-one .ensures) (shows-one s (taken .before .lowest-of2 .result) (c .view-after .result) z lt shown)),
+        omega (arith, placed-here taken .if2 .left),
+        (omega (arith, st .pre .1 .0, placed-here taken .if2 .left), rw (c .before .do-one .ensures) (shows-one s (event taken) (c .view-after .result) z lt shown)),
       )
 
   search-element-write-q : search-lts.Need-element-write-q (claims t) (search-at t) search′.Post
-  search-element-write-q c =
-      let more = c .before .before .before .before .before .before .before .before .before .before .before .before .before in
-      omega (arith, more .before .before .before .pre .1 .0, more .if2 .left)
+  search-element-write-q c = omega (arith, at-low (c .before .before .before .before .before .before))
 
-  -- where an event was found: places of the code, from the call of `search` back
-  abbrev begun : (c : search-lts.After-search (claims t) (search-at t) search′.Post) → search-lts.Args (claims t) (search-at t) search′.Post
-  begun c = c .before .before .before .before .before .before .before .before .before .before .before .before .before .before .before .args
+  search-returns-3 : search-lts.Need-returns-3 (claims t) (search-at t) search′.Post
+  search-returns-3 c =
+      let taken = c .before .before in
+      let next = taken .before .before .before in
+      let blocked = next .before .before in
+      let more = placed-here taken in
+      let first = more .before .before in
+      let st = begun taken in
+      let s = st .args .s in
+      search-last s (st .args .left) (st .args .at) (st .args .places)
+      (blocked .blocked-in .result)
+      (next .before .without .result)
+      (blocked .blocked-in .ensures (s .plan) (fateOf s) refl refl (st .pre .1 .1))
+      (next .before .without .ensures)
+      (search-more s (st .args .left) (st .args .at) (st .args .places) (first .lowest-of .result) (first .lowest-of .ensures) (more .before .if1 .left))
+      (more .if2 .left)
+      (next .lowest-of2 .result)
+      (next .lowest-of2 .ensures)
+      (sized s (st .good .0))
+      (taken .before .before .if3 .taken)
+      (taken .before .with-if .result)
+      (taken .without2 .result)
+      (taken .before .with-if .ensures)
+      (taken .without2 .ensures)
+      (c .before .lowest-of3 .result)
+      (c .before .lowest-of3 .ensures)
+      (c .if4 .taken)
 
   onward : (c : search-lts.After-search (claims t) (search-at t) search′.Post)
-      → Onward (begun c .s) (begun c .left) (begun c .at) (begun c .places) (c .before .before .before .before .before .before .lowest-of2 .result) (c .search .result)
+      → (let st = begun (c .before .before .before .before .before) .args in
+      Onward (st .s) (st .left) (st .at) (st .places) (event (c .before .before .before .before .before)) (c .search .result))
   onward c =
       let taken = c .before .before .before .before .before in
-      let next = taken .before in
+      let next = taken .before .before .before in
       let blocked = next .before .before in
-      let more = blocked .before .before .before .before in
+      let more = placed-here taken in
       let first = more .before .before in
-      let st = first .before in
+      let st = begun taken in
       let s = st .args .s in
       search-on s (st .args .left) (st .args .at) (st .args .places)
       (blocked .blocked-in .result)
@@ -121,22 +168,22 @@ module _ (t : ℕ) where
       (next .lowest-of2 .result)
       (next .lowest-of2 .ensures)
       (sized s (st .good .0))
-      (taken .if3 .taken)
-      (c .before .before .before .before .with-if .result)
-      (c .before .before .before .without2 .result)
-      (c .before .before .before .before .with-if .ensures)
-      (c .before .before .before .without2 .ensures)
+      (taken .before .before .if3 .taken)
+      (taken .before .with-if .result)
+      (taken .without2 .result)
+      (taken .before .with-if .ensures)
+      (taken .without2 .ensures)
       (c .search .result)
       (rw (c .before .before .do-one .ensures) at (c .search .ensures))
 
-  search-returns-3 : search-lts.Need-returns-3 (claims t) (search-at t) search′.Post
-  search-returns-3 c = onward (c .before) .hit (c .if4 .taken)
-
   search-returns-4 : search-lts.Need-returns-4 (claims t) (search-at t) search′.Post
-  search-returns-4 c = onward (c .before) .miss (c .if4 .left)
+  search-returns-4 c = onward (c .before) .hit (c .if5 .taken)
 
   search-returns-5 : search-lts.Need-returns-5 (claims t) (search-at t) search′.Post
-  search-returns-5 c =
+  search-returns-5 c = onward (c .before) .miss (c .if5 .left)
+
+  search-returns-6 : search-lts.Need-returns-6 (claims t) (search-at t) search′.Post
+  search-returns-6 c =
       let blocked = c .before .before .before in
       let more = blocked .before .before .before .before in
       let first = more .before .before in
@@ -165,12 +212,16 @@ pub +search-spec : {M : Type 1} → statement M
     (search-lowest-of-requires-2 t)
     (search-with-if-requires t)
     (search-without-requires-2 t)
+    (search-lowest-of-requires-3 t)
+    (search-add-t23 t)
+    (search-element-write-last t)
+    (search-returns-3 t)
     (search-do-one-requires t)
     (search-view-after-requires t)
     (search-add-search t)
     (search-sub-search t)
     (search-search-requires t)
     (search-element-write-q t)
-    (search-returns-3 t)
     (search-returns-4 t)
     (search-returns-5 t)
+    (search-returns-6 t)

@@ -7,9 +7,12 @@ use mathlib.Core.Path.{_≡_, refl, sym, _∙_}
 use Rattle.plan.specs.Fates.{isOpen}
 use Rattle.plan.specs.Plans.{delayable}
 use Rattle.plan.proofs.RuleReads.{bit-in, bit-past}
+use Rattle.scheduler.specs.Prelude.{State}
 use Rattle.scheduler.specs.State.{fateOf}
+use Rattle.scheduler.specs.Calls.{settle, submit}
 use Rattle.scheduler.proofs.Branches.{submit-same}
 use Rattle.scheduler.proofs.CallSteps.{fate-in, fate-blank, hand-delayed, hand-decided}
+use Rattle.scheduler.proofs.SettleLoops.{settle-unheld}
 use Rattle.scheduler.proofs.state.State.after_submit.Statement.{statement}
 use Rattle.scheduler.proofs.state.State.after_submit.Tie as tie
 
@@ -57,13 +60,19 @@ returns-2 c =
 decide-requires : tie.Need-decide-requires
 decide-requires c κs = search needs
 
+has-held-requires : tie.Need-has-held-requires
+has-held-requires c κs = search needs
+
 settle-requires-2 : tie.Need-settle-requires-2
 settle-requires-2 c κs = search needs
 
-returns-3 : tie.Need-returns-3
-returns-3 c =
-    let delay = c .before .before .before .is-delayable in
-    let join = c .before .before .before .before .before in
+-- the event is decided, and the rest settled
+handed : (c : tie.After-decide) (u : State)
+    → u ≡ settle (c .decide .result)
+    → (let a = c .before .before .before .before .before .before .before .before .args in u ≡ submit (a .self) (a .event))
+handed c u settled =
+    let delay = c .before .before .is-delayable in
+    let join = c .before .before .before .before in
     let a = join .before .before .before .before .args in
     let fresh : isOpen (fateOf (a .self) (a .event)) ≡ true = elim (join .if1 .came) [
       | inl w ↦ sym (fate-in (a .self) (a .event) _ (w .0 .taken) (w .2 .ensures)) ∙ not-false _ (w .3 .left)
@@ -73,7 +82,15 @@ returns-3 c =
       | inl w ↦ bit-in (a .self .plan) _ refl 4 (a .event) _ _ (delay .ensures) (w .0 .taken) (w .5)
       | inr w ↦ bit-past (a .self .plan) _ refl 4 (a .event) _ _ (delay .ensures) (w .0 .left) (w .1)
     ] in
-    hand-decided (a .self) (a .event) fresh _ _ _ (c .before .before .before .before .hold .ensures) late _ (c .before .before .if3 .left) (c .before .decide .ensures) (c .settle2 .ensures)
+    hand-decided (a .self) (a .event) fresh _ _ _ (c .before .before .before .hold .ensures) late _ (c .before .if3 .left) (c .decide .ensures) settled
+
+returns-3 : tie.Need-returns-3
+returns-3 c = handed (c .before .before .before) _ (c .settle2 .ensures)
+
+returns-4 : tie.Need-returns-4
+returns-4 c =
+    let decided = c .before .before in
+    handed decided _ (sym (settle-unheld (decided .decide .result) (sym (c .before .has-held .ensures) ∙ c .if4 .left)))
 
 pub after-submit-spec : {M : Type 1} → statement M
 after-submit-spec =
@@ -89,5 +106,7 @@ after-submit-spec =
     settle-requires
     returns-2
     decide-requires
+    has-held-requires
     settle-requires-2
-    returns-3)
+    returns-3
+    returns-4)

@@ -2,20 +2,22 @@
 -- count no more as able have no order.
 use Prim.Native.Nat.{ℕ, _≤_, _-_}
 use native.Mathlib.Omega.{arith}
-use mathlib.Core.Bool.{true, false}
+use mathlib.Core.Bool.{true, _&&_}
 use mathlib.Core.Logic.{⊎-elim}
 use mathlib.Core.Option.{none}
 use mathlib.Core.Path.{_≡_, refl, sym, _∙_, subst}
+use Rattle.plan.specs.Fates.{isHeld}
 use Rattle.plan.specs.Plans.{eventCount}
 use Rattle.members.specs.Sets.{inSet}
 use Rattle.scheduler.specs.State.{fateOf}
 use Rattle.scheduler.specs.Orders.{chosen, noOrder}
 use Rattle.scheduler.specs.Internal.Hopeful.{Hopeful}
+use Rattle.plan.proofs.Tests.{and-left}
 use Rattle.plan.proofs.Loops.{Rest, rest-all, rest-next}
 use Rattle.members.proofs.Bits.{in-below}
 use Rattle.scheduler.proofs.Sizes.{sized}
-use Rattle.scheduler.proofs.SearchLoops.{members-none, members-found, hopeful-all, hopeful-less}
-use Rattle.scheduler.proofs.SettleLoops.{held-seen, order-missing, doing, doing-hopeless, doing-none, held-found, held-none}
+use Rattle.scheduler.proofs.SearchLoops.{members-none, members-found, hopeful-less}
+use Rattle.scheduler.proofs.SettleLoops.{held-seen, order-missing, doing, doing-hopeless, doing-passed, held-found, held-none}
 use Rattle.scheduler.proofs.state.State.find_held.Statement.{statement}
 use Rattle.scheduler.proofs.state.State.find_held.Tie as tie
 
@@ -26,8 +28,14 @@ Inv-loop self view rules broken count n able₀ e₀ able e =
 abbrev μ-loop : tie.MeasureT-loop
 μ-loop self view rules broken count n able₀ e₀ able e = n - e
 
+find-hopeful-requires : tie.Need-find-hopeful-requires Inv-loop μ-loop
+find-hopeful-requires c κs = c .before .before .before .pre
+
 loop-holds : tie.Need-loop-holds Inv-loop μ-loop
-loop-holds c = (omega arith, rest-all _ _, hopeful-all _ _ (c .before .before .before .pre))
+loop-holds c = (omega arith, rest-all _ _, c .find-hopeful .ensures)
+
+common-requires : tie.Need-common-requires Inv-loop μ-loop
+common-requires c κs = tt
 
 is-in-requires : tie.Need-is-in-requires Inv-loop μ-loop
 is-in-requires c κs = tt
@@ -35,20 +43,38 @@ is-in-requires c κs = tt
 close-set-requires : tie.Need-close-set-requires Inv-loop μ-loop
 close-set-requires c κs = tt
 
+-- places of the code: where the loop is, and where it started; what the test of an event says
+abbrev turn : tie.After-is-in Inv-loop μ-loop → tie.At-loop Inv-loop μ-loop
+turn c = c .before .before .before
+
+abbrev begun : tie.After-is-in Inv-loop μ-loop → tie.Start Inv-loop μ-loop
+begun c = turn c .before .before .before .before .before
+
+tested : (c : tie.After-is-in Inv-loop μ-loop)
+    → c .is-in .result ≡ (inSet (begun c .args .view .held) (turn c .loop .e) && inSet (turn c .loop .able) (turn c .loop .e))
+tested c = c .is-in .ensures ∙ c .before .common .ensures (turn c .loop .e)
+
+is-held : (c : tie.After-is-in Inv-loop μ-loop) → c .is-in .result ≡ true → inSet (begun c .args .view .held) (turn c .loop .e) ≡ true
+is-held c h = and-left (inSet (begun c .args .view .held) (turn c .loop .e)) (inSet (turn c .loop .able) (turn c .loop .e)) (sym (tested c) ∙ h)
+
+seen-held : (c : tie.After-is-in Inv-loop μ-loop) → c .is-in .result ≡ true → isHeld (fateOf (begun c .args .self) (turn c .loop .e)) ≡ true
+seen-held c h = held-seen (begun c .args .self) (begun c .args .view) (begun c .pre) (turn c .loop .e) (c .before .before .loop-test .taken) _ true refl (is-held c h)
+
 find-among-requires : tie.Need-find-among-requires Inv-loop μ-loop
-find-among-requires c κs = c .before .before .before .before .before .before .before .before .before .pre
+find-among-requires c κs = begun (c .before .before .before) .pre
 
 returns : tie.Need-returns Inv-loop μ-loop
 returns c =
-    let at = c .before .before .before .before .before .before .before .loop in
-    let st = c .before .before .before .before .before .before .before .before .before .before .before in
+    let told = c .before .before .before .before .before in
+    let at = turn told .loop in
+    let st = begun told in
     let s = st .args .self in
-    let held = held-seen s (st .args .view) (st .pre) (at .e) (omega arith) _ _ (c .before .before .before .before .before .is-in .ensures) (c .before .before .before .before .if1 .taken) in
+    let held = seen-held told (c .before .before .before .before .if1 .taken) in
     let closed = c .before .before .before .close-set in
     let closes = closed .ensures (s .plan) (fateOf s) refl refl (st .pre) in
     let found = c .before .find-among in
     let same = members-found s (sized s (st .good .0)) (at .e) (at .able) (at .inv .2) (closed .result) closes (c .before .before .if2 .taken) (found .result) (found .ensures) in
-    held-found s (at .e) (at .inv .1) (omega arith) held (c .before .find-among .result) same (c .if3 .taken)
+    held-found s (at .e) (at .inv .1) (told .before .before .loop-test .taken) held (c .before .find-among .result) same (c .if3 .taken)
 
 with-if-requires : tie.Need-with-if-requires Inv-loop μ-loop
 with-if-requires c κs = tt
@@ -64,11 +90,11 @@ loop-less c = omega arith
 
 loop-again : tie.Need-loop-again Inv-loop μ-loop
 loop-again c =
-    let at = c .before .before .before .loop in
-    let st = c .before .before .before .before .before .before .before in
+    let told = c .before in
+    let at = turn told .loop in
+    let st = begun told in
     let s = st .args .self in
     let z = sized s (st .good .0) in
-    let told = held-seen s (st .args .view) (st .pre) (at .e) (omega arith) (c .before .is-in .result) in
     ⊎-elim
     (λ w.
     let closes = w .1 .ensures (s .plan) (fateOf s) refl refl (st .pre) in
@@ -77,21 +103,21 @@ loop-again c =
     (λ v. order-missing s (at .e) noOrder (members-none s z (at .e) (at .able) (at .inv .2) (w .1 .result) closes (v .left)) refl)
     (w .2 .came) in (
       omega arith,
-      rest-next _ _ (at .e) (at .inv .1) (omega arith) (doing-hopeless s (at .e) (told true (c .before .is-in .ensures) (w .0 .taken)) missing),
+      rest-next _ _ (at .e) (at .inv .1) (omega arith) (doing-hopeless s (at .e) (seen-held told (w .0 .taken)) missing),
       subst
           (λ (a : ℕ). Hopeful s (inSet a))
           (sym (w .5))
-          (hopeful-less s (at .able) (w .3 .result) (w .4 .result) (at .e) (in-below _ (at .e) (sym (c .before .is-in .ensures) ∙ w .0 .taken)) (w .3 .ensures) (w .4 .ensures) (at .inv .2) missing),
+          (hopeful-less s (at .able) (w .3 .result) (w .4 .result) (at .e) (in-below _ (at .e) (is-held told (w .0 .taken))) (w .3 .ensures) (w .4 .ensures) (at .inv .2) missing),
     ))
     (λ w. (
       omega arith,
-      rest-next _ _ (at .e) (at .inv .1) (omega arith) (doing-none s (at .e) (told false (c .before .is-in .ensures) (w .0 .left))),
+      rest-next _ _ (at .e) (at .inv .1) (omega arith) (doing-passed s (st .args .view) (at .able) (at .e) (st .pre) (at .inv .2) (told .before .before .loop-test .taken) (sym (tested told) ∙ w .0 .left)),
       subst (λ (a : ℕ). Hopeful s (inSet a)) (sym (w .1)) (at .inv .2),
     ))
     (c .if1 .came)
 
 returns-2 : tie.Need-returns-2 Inv-loop μ-loop
-returns-2 c = held-none (c .before .before .before .before .before .args .self) (c .before .loop .e) (c .before .loop .inv .1) (c .loop-test .left)
+returns-2 c = held-none (c .before .before .before .before .before .before .args .self) (c .before .loop .e) (c .before .loop .inv .1) (c .loop-test .left)
 
 pub find-held-spec : {M : Type 1} → statement M
 find-held-spec =
@@ -99,7 +125,9 @@ find-held-spec =
     (tie.spec
     Inv-loop
     μ-loop
+    find-hopeful-requires
     loop-holds
+    common-requires
     is-in-requires
     close-set-requires
     find-among-requires
