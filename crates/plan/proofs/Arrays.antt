@@ -6,7 +6,7 @@ use borrow.Author.Tests.{lt-ltb, le-ltb}
 use mathlib.Core.Bool.{Bool, true, false, cond}
 use mathlib.Core.List.{List}
 use mathlib.Core.Logic.{_≢_}
-use mathlib.Core.Path.{_≡_, refl, _∙_, ap}
+use mathlib.Core.Path.{_≡_, refl, ap}
 use lib.Dec.{ltb}
 use lib.ListN.{length, getD, set, replicate, length-set, length-replicate, getD-replicate, List·getD-eq-default}
 use lib.Seq.{getD-set-same, getD-set-other}
@@ -57,11 +57,3 @@ module _ {A : Type 0} (n : ℕ) (l : List A) (i : ℕ) (a : A) where
 
     pub read-other : (j : ℕ) → j ≢ i → readAt n (storeAt n l i a) j d ≡ readAt n l j d
     read-other j ne = ap (λ x. cond (ltb j n) x d) (get-other j ne)
-
--- after a store that the code makes within the array
-module _ {A : Type 0} (n : ℕ) (l : List A) (i : ℕ) (a d : A) where
-  pub set-same : i < length l → i < n → readAt n (set l i a) i d ≡ a
-  set-same h lt = read-in n (set l i a) i d lt ∙ getD-set-same l i a d h
-
-  pub set-other : (j : ℕ) → j ≢ i → readAt n (set l i a) j d ≡ readAt n l j d
-  set-other j ne = ap (λ x. cond (ltb j n) x d) (getD-set-other l i j a d ne)

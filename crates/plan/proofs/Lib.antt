@@ -6,7 +6,6 @@ pub mod Fates
 pub mod RuleReads
 pub mod Loops
 pub mod Lines
-pub mod Listings
 pub mod Tables
 pub mod FaultlessRecords
 pub mod Steps

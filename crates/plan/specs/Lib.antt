@@ -5,7 +5,6 @@ pub mod Fates
 pub mod Plans
 pub mod Rules
 pub mod Histories
-pub mod Listings
 pub mod Faults
 pub mod Records
 pub mod Sheets

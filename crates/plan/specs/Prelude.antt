@@ -3,7 +3,6 @@ pub use Prim.Native.Nat.{ℕ, zero, suc, _+_, _/_, _%_, _≤_, _<_}
 pub use mathlib.Core.Bool.{Bool, true, false, not, _&&_, _||_, cond}
 pub use mathlib.Core.List.{List, [], _∷_, _++_}
 pub use mathlib.Core.Option.{Option, none, some}
-pub use mathlib.Core.Path.{_≡_}
 pub use lib.Dec.{eqb, ltb, leb}
 pub use lib.ListN.{length, getD, take, drop, set, replicate}
 pub use Rattle.plan.specs.declared.fate.Fate.{Fate}
@@ -15,7 +14,6 @@ pub use Rattle.plan.specs.declared.rule.Rule.the-variants.{Order, Need, 
 pub use Rattle.plan.specs.declared.rule.RuleLine.{RuleLine}
 pub use Rattle.plan.specs.declared.plan.Plan.{Plan}
 pub use Rattle.plan.specs.declared.history.Entry.{Entry}
-pub use Rattle.plan.specs.declared.history.Listing.{Listing}
 pub use Rattle.plan.specs.declared.record.Record.{Record}
 pub use Rattle.plan.specs.declared.calls.Call.{Call}
 pub use Rattle.plan.specs.declared.calls.Call.the-variants.{Submit, Close, Finish}

@@ -1,11 +1,7 @@
-// Events: their attributes, and what may be said of one with its fate.
-use super::fate::Fate;
-use super::fate::is_held;
+// Events and their attributes.
 ghost use mathlib.Core.Path.{_≡_};
-ghost use mathlib.Core.Bool.{not, _&&_};
-ghost use Rattle.plan.specs.Fates.{isHeld};
 ghost use Rattle.plan.specs.Plans.{holdsBit};
-ghost use Rattle.plan.specs.Rules.{badStep, badAttributes};
+ghost use Rattle.plan.specs.Rules.{badAttributes};
 
 // What a sheet declares of an event. The attributes' bits: 1 forcible, 2 rejectable, 4 delayable.
 pub struct Event {
@@ -36,18 +32,4 @@ pub fn are_bad(attributes: u8) -> bool
     ensures { λ r. ⌜ r ≡ badAttributes attributes ⌝ }
 {
     (7 < attributes) | (is_delayable(attributes) & !is_rejectable(attributes))
-}
-
-// Would a sheet be admitted with the event?
-pub fn is_sound(event: Event) -> bool
-    ensures { λ r. ⌜ r ≡ (not (badStep (event .step)) && not (badAttributes (event .attributes))) ⌝ }
-{
-    !(7 < event.step) & !are_bad(event.attributes)
-}
-
-// A held event is delayable.
-pub fn may_be_held(event: Event, fate: Fate) -> bool
-    ensures { λ r. ⌜ r ≡ not (isHeld fate && not (holdsBit 4 (event .attributes))) ⌝ }
-{
-    !(is_held(fate) & !is_delayable(event.attributes))
 }

@@ -1,14 +1,7 @@
-// What a history says of events. A length above 16 stands for all 16 places.
+// The lines of a history. A length above 16 stands for all 16 places.
 use super::fate::Fate;
-use super::fate::Standing;
-use super::fate::is_done;
-use super::fate::is_same;
-use super::fate::is_settled;
 ghost use mathlib.Core.Path.{_≡_};
 ghost use Prim.Native.Nat.{min};
-ghost use lib.ListN.{take};
-ghost use Rattle.plan.specs.Fates.{fatesOf};
-ghost use Rattle.plan.specs.Listings.{Listed};
 
 // A line of the history: an event with its fate.
 pub struct Entry {
@@ -16,59 +9,9 @@ pub struct Entry {
     pub fate: Fate,
 }
 
-// What one pass over the lines tells: whether each could stand there, which events have a line, and of those that are
-// done the place of it, counted from 1; 0 for the others.
-pub struct Listing {
-    pub ok: bool,
-    pub listed: [bool; 16],
-    pub places: [u8; 16],
-}
-
 // The lines that a length gives.
 pub fn lines_in(len: u8) -> u8
     ensures { λ r. ⌜ r ≡ min len 16 ⌝ }
 {
     if len < 16 { len } else { 16 }
-}
-
-// Where the events stand in the lines; not ok at a line of an event that is not declared, has a line before it, is not
-// settled or has another fate.
-pub fn list_events(history: [Entry; 16], len: u8, count: u8, standings: [Standing; 16]) -> Listing
-    ensures { λ r. ⌜ Listed (take len history) count (fatesOf standings) r ⌝ }
-{
-    let n = lines_in(len);
-    let mut listed = [false; 16];
-    let mut places = [0u8; 16];
-    let mut i: u8 = 0;
-    while i < n {
-        let line = history[i as usize];
-        let event = line.event;
-        let told = line.fate;
-        if (16 <= event) | (count <= event) {
-            return Listing {
-                ok: false,
-                listed,
-                places,
-            };
-        }
-        let standing = standings[event as usize];
-        let fate = standing.fate;
-        if listed[event as usize] | !(is_settled(fate) & is_same(told, fate)) {
-            return Listing {
-                ok: false,
-                listed,
-                places,
-            };
-        }
-        listed[event as usize] = true;
-        if is_done(fate) {
-            places[event as usize] = i + 1;
-        }
-        i += 1;
-    }
-    Listing {
-        ok: true,
-        listed,
-        places,
-    }
 }

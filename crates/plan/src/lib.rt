@@ -1,5 +1,5 @@
 // What a sheet declares, what rules say of it and of the fates of its events, and the formats of sheets and calls:
-// types, and tests of single events, rules and lines. The definitions stand in specs/.
+// types, and tests of single events and rules. The definitions stand in specs/.
 pub mod answer;
 pub mod bytes;
 pub mod calls;

@@ -5,7 +5,6 @@ use super::event::is_delayable;
 use super::event::is_forcible;
 use super::event::is_rejectable;
 ghost use mathlib.Core.Path.{_≡_};
-ghost use mathlib.Core.Bool.{_&&_};
 ghost use Rattle.plan.specs.Prelude.{Plan};
 ghost use Rattle.plan.specs.Rules.{named, enforceable};
 
@@ -85,11 +84,4 @@ pub fn is_enforceable(events: [Event; 16], rule: Rule) -> bool
             is_rejectable(first) | is_rejectable(second) | is_forcible(last)
         }
     }
-}
-
-// Would a sheet with these events be admitted with the rule?
-pub fn is_admitted(count: u8, events: [Event; 16], rule: Rule) -> bool
-    ensures { λ r. ⌜ ((p : Plan) → p .events ≡ events → r ≡ (named count rule && enforceable p rule)) ⌝ }
-{
-    are_named(count, rule) & is_enforceable(events, rule)
 }

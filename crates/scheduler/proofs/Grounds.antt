@@ -26,7 +26,7 @@ use Rattle.scheduler.specs.Coherent.{coherent}
 use Rattle.scheduler.specs.Lists.{scheduler}
 use Rattle.plan.proofs.Tables.{none-applies}
 use native.Mathlib.Omega.{arith}
-use Rattle.scheduler.proofs.CoherentTests.{coherent-few}
+use Rattle.scheduler.proofs.CoherentParts.{coherent-few}
 
 -- one trail after another
 pub then : {c : Call} {s t u : State} → Trail c s t → Trail c t u → Trail c s u

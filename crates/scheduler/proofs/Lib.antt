@@ -1,6 +1,6 @@
 -- Lemmas over the definitions of `scheduler`, lowest first; the marked cases last.
 pub mod Laws
-pub mod CoherentTests
+pub mod CoherentParts
 pub mod Branches
 pub mod Searching
 pub mod LeastSets

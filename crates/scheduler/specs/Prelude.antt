@@ -14,7 +14,6 @@ pub use Rattle.plan.specs.declared.fate.Standing.{Standing}
 pub use Rattle.plan.specs.declared.event.Event.{Event}
 pub use Rattle.plan.specs.declared.rule.Rule.{Rule}
 pub use Rattle.plan.specs.declared.rule.Rule.the-variants.{Order, Need, Conditional}
-pub use Rattle.plan.specs.declared.rule.RuleLine.{RuleLine}
 pub use Rattle.plan.specs.declared.plan.Plan.{Plan}
 pub use Rattle.plan.specs.declared.history.Entry.{Entry}
 pub use Rattle.plan.specs.declared.calls.Call.{Call}

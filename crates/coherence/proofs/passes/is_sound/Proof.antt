@@ -1,7 +1,7 @@
 -- `is_sound` meets its contract.
 use borrow.Author.Needs.{needs}
-use Rattle.plan.proofs.event.is_sound.Statement.{statement}
-use Rattle.plan.proofs.event.is_sound.Tie as tie
+use Rattle.coherence.proofs.passes.is_sound.Statement.{statement}
+use Rattle.coherence.proofs.passes.is_sound.Tie as tie
 
 are-bad-requires : tie.Need-are-bad-requires
 are-bad-requires c κs = search needs

@@ -1,7 +1,7 @@
 -- `may_be_held` meets its contract.
 use borrow.Author.Needs.{needs}
-use Rattle.plan.proofs.event.may_be_held.Statement.{statement}
-use Rattle.plan.proofs.event.may_be_held.Tie as tie
+use Rattle.coherence.proofs.passes.may_be_held.Statement.{statement}
+use Rattle.coherence.proofs.passes.may_be_held.Tie as tie
 
 is-held-requires : tie.Need-is-held-requires
 is-held-requires c κs = search needs

@@ -1,4 +1,4 @@
--- `State::are_events_coherent` meets its contract. The loop's invariant: every event passed has passed the tests.
+-- `are_events_coherent` meets its contract. The loop's invariant: every event passed has passed the tests.
 use Prim.Native.Nat.{ℕ, _<_, _≤_, _-_}
 use native.Mathlib.Omega.{arith}
 use borrow.Author.Count.{below-more}
@@ -8,17 +8,17 @@ use mathlib.Core.Bool.{true}
 use mathlib.Core.Path.{_≡_, sym}
 use lib.ListN.{getD}
 use Rattle.plan.specs.Plans.{blankEvent}
-use Rattle.scheduler.proofs.CoherentTests.{passesAt, passes-both, sound-step, event-unsound, event-wrong, events-pass}
-use Rattle.scheduler.proofs.state.State.are_events_coherent.Statement.{statement}
-use Rattle.scheduler.proofs.state.State.are_events_coherent.Tie as tie
+use Rattle.coherence.proofs.CoherentTests.{passesAt, passes-both, sound-step, event-unsound, event-wrong, events-pass}
+use Rattle.coherence.proofs.passes.are_events_coherent.Statement.{statement}
+use Rattle.coherence.proofs.passes.are_events_coherent.Tie as tie
 
 abbrev Inv-loop : tie.InvT-loop
-Inv-loop listed event-count events standings closed i₀ i =
+Inv-loop standings closed listed event-count events i₀ i =
     (i ≤ event-count)
     × ((k : ℕ) → k < i → passesAt events standings closed listed k ≡ true)
 
 abbrev μ-loop : tie.MeasureT-loop
-μ-loop listed event-count events standings closed i₀ i = event-count - i
+μ-loop standings closed listed event-count events i₀ i = event-count - i
 
 loop-holds : tie.Need-loop-holds Inv-loop μ-loop
 loop-holds c = (omega arith, λ k lt. absurd (omega arith))
@@ -43,8 +43,9 @@ is-sound-requires c κs = search needs
 
 returns : tie.Need-returns Inv-loop μ-loop
 returns c =
-    let s = c .before .before .before .before .before .before .before .before .before .before in
-    sym (event-unsound (s .args .self) (s .args .t2) (s .pre .0) (s .pre .1) (c .before .before .before .before .before .loop .i) (c .before .before .before .before .loop-test .taken)
+    let s = c .before .before .before .before .before .before .before in
+    λ h told.
+    sym (event-unsound (s .args .plan) (s .args .t2) (s .args .t3) (s .args .t4) h (s .pre) told (c .before .before .before .before .before .loop .i) (c .before .before .before .before .loop-test .taken)
     (not-true _ (rw (c .before .is-sound .ensures) at (c .if1 .taken))))
 
 is-settled-requires : tie.Need-is-settled-requires Inv-loop μ-loop
@@ -64,21 +65,22 @@ is-open-requires c κs = search needs
 
 cast-if2-2 : tie.Need-cast-if2-2 Inv-loop μ-loop
 cast-if2-2 c =
-    let s = c .before .before .before .before .before .before .before .before .before .before .before .before .before in
-    let event = getD (s .args .self .plan .events) (c .before .before .before .before .before .before .before .before .loop .i) blankEvent in
+    let s = c .before .before .before .before .before .before .before .before .before .before in
+    let event = getD (s .args .plan .events) (c .before .before .before .before .before .before .before .before .loop .i) blankEvent in
     omega (arith, sound-step event (not-false _ (rw (c .before .before .before .before .is-sound .ensures) at (c .before .before .before .if1 .left))))
 
 array-read-if2-2 : tie.Need-array-read-if2-2 Inv-loop μ-loop
 array-read-if2-2 c =
-    let s = c .before .before .before .before .before .before .before .before .before .before .before .before .before in
-    sound-step (getD (s .args .self .plan .events) (c .before .before .before .before .before .before .before .before .loop .i) blankEvent)
+    let s = c .before .before .before .before .before .before .before .before .before .before in
+    sound-step (getD (s .args .plan .events) (c .before .before .before .before .before .before .before .before .loop .i) blankEvent)
     (not-false _ (rw (c .before .before .before .before .is-sound .ensures) at (c .before .before .before .if1 .left)))
 
 returns-2 : tie.Need-returns-2 Inv-loop μ-loop
 returns-2 c =
-    let s = c .before .before .before .before .before .before .before .before .before .before .before .before .before .before in
+    let s = c .before .before .before .before .before .before .before .before .before .before .before in
     let at = c .before .before .before .before .before .before .before .before in
-    sym (event-wrong (s .args .self) (s .args .t2) (s .pre .0) (s .pre .1) (at .before .loop .i) (at .loop-test .taken)
+    λ h told.
+    sym (event-wrong (s .args .plan) (s .args .t2) (s .args .t3) (s .args .t4) h (s .pre) told (at .before .loop .i) (at .loop-test .taken)
     (rw (c .before .before .before .is-settled .ensures, c .before .before .may-be-held .ensures, c .before .is-open .ensures) at (c .if2 .taken)))
 
 add-i : tie.Need-add-i Inv-loop μ-loop
@@ -89,19 +91,19 @@ loop-less c = search needs
 
 loop-again : tie.Need-loop-again Inv-loop μ-loop
 loop-again c =
-    let s = c .before .before .before .before .before .before .before .before .before .before .before .before .before .before in
+    let s = c .before .before .before .before .before .before .before .before .before .before .before in
     let i = c .before .before .before .before .before .before .before .before .before .loop in (
       omega arith,
       below-more _ _ (i .inv .1)
-          (passes-both (s .args .self .plan .events) (s .args .self .standings) (s .args .self .closed) (s .args .t2) (i .i)
+          (passes-both (s .args .plan .events) (s .args .t2) (s .args .t3) (s .args .t4) (i .i)
           (not-false _ (rw (c .before .before .before .before .before .is-sound .ensures) at (c .before .before .before .before .if1 .left)))
           (rw (c .before .before .before .is-settled .ensures, c .before .before .may-be-held .ensures, c .before .is-open .ensures) at (c .if2 .left))),
     )
 
 returns-3 : tie.Need-returns-3 Inv-loop μ-loop
 returns-3 c =
-    let s = c .before .before .before .before .before .before in
-    sym (events-pass (s .args .self) (s .args .t2) (s .pre .0) (s .pre .1) (λ k lt. c .before .loop .inv .1 k (omega arith)))
+    let s = c .before .before .before in
+    λ h told. sym (events-pass (s .args .plan) (s .args .t2) (s .args .t3) (s .args .t4) h (s .pre) told (λ k lt. c .before .loop .inv .1 k (omega arith)))
 
 pub are-events-coherent-spec : {M : Type 1} → statement M
 are-events-coherent-spec =

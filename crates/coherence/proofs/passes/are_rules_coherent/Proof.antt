@@ -1,4 +1,4 @@
--- `State::are_rules_coherent` meets its contract. The loop's invariant: every rule passed has passed the tests.
+-- `are_rules_coherent` meets its contract. The loop's invariant: every rule passed has passed the tests.
 use Prim.Native.Nat.{ℕ, _<_, _≤_, _-_}
 use native.Mathlib.Omega.{arith}
 use borrow.Author.Count.{below-more}
@@ -9,16 +9,15 @@ use mathlib.Core.List.{List}
 use mathlib.Core.Path.{_≡_, refl, sym}
 use Rattle.plan.specs.Plans.{eventCount}
 use Rattle.plan.specs.Rules.{enforceable}
-use Rattle.plan.specs.Listings.{Placed, placeIn}
+use Rattle.coherence.specs.Listings.{Placed, placeIn}
 use Rattle.plan.proofs.Tests.{and-left}
-use Rattle.scheduler.specs.Prelude.{Plan, Entry}
-use Rattle.scheduler.specs.State.{lines}
-use Rattle.scheduler.proofs.CoherentTests.{ruleIn, admitsAt, keptAt, kept-both, rule-unsound, rule-breaks, rules-pass}
-use Rattle.scheduler.proofs.state.State.are_rules_coherent.Statement.{statement}
-use Rattle.scheduler.proofs.state.State.are_rules_coherent.Tie as tie
+use Rattle.coherence.specs.Prelude.{Plan, Entry}
+use Rattle.coherence.proofs.CoherentTests.{ruleIn, admitsAt, keptAt, kept-both, rule-unsound, rule-breaks, rules-pass}
+use Rattle.coherence.proofs.passes.are_rules_coherent.Statement.{statement}
+use Rattle.coherence.proofs.passes.are_rules_coherent.Tie as tie
 
 abbrev Inv-loop : tie.InvT-loop
-Inv-loop places event-count rule-count events rules broken i₀ i =
+Inv-loop places broken event-count rule-count events rules i₀ i =
     (i ≤ rule-count)
     × ((p : Plan) (h : List Entry)
     → p .events ≡ events
@@ -28,7 +27,7 @@ Inv-loop places event-count rule-count events rules broken i₀ i =
     → (admitsAt p event-count rules k && keptAt h broken rules k) ≡ true)
 
 abbrev μ-loop : tie.MeasureT-loop
-μ-loop places event-count rule-count events rules broken i₀ i = rule-count - i
+μ-loop places broken event-count rule-count events rules i₀ i = rule-count - i
 
 loop-holds : tie.Need-loop-holds Inv-loop μ-loop
 loop-holds c = (omega arith, λ p h same placed k lt. absurd (omega arith))
@@ -47,9 +46,10 @@ is-admitted-requires c κs = search needs
 
 returns : tie.Need-returns Inv-loop μ-loop
 returns c =
-    let s = c .before .before .before .before .before .before .before .before .before in
-    sym (rule-unsound (s .args .self) (s .pre .1) (s .pre .3) (c .before .before .before .before .loop .i) (c .before .before .before .loop-test .taken)
-    (not-true _ (rw (c .before .is-admitted .ensures (s .args .self .plan) refl) at (c .if1 .taken))))
+    let s = c .before .before .before .before .before .before .before in
+    λ f closed h placed pass.
+    sym (rule-unsound (s .args .plan) f (s .args .t2) closed h (s .pre .1) pass (c .before .before .before .before .loop .i) (c .before .before .before .loop-test .taken)
+    (not-true _ (rw (c .before .is-admitted .ensures (s .args .plan) refl) at (c .if1 .taken))))
 
 cast-if2 : tie.Need-cast-if2 Inv-loop μ-loop
 cast-if2 c = search needs
@@ -59,18 +59,19 @@ array-read-if2 c = search needs
 
 does-hold-requires : tie.Need-does-hold-requires Inv-loop μ-loop
 does-hold-requires c κs =
-    let s = c .before .before .before .before .before .before .before .before .before in (
-      eventCount (s .args .self .plan),
+    let s = c .before .before .before .before .before .before .before in (
+      eventCount (s .args .plan),
       s .pre .0,
-      and-left _ (enforceable (s .args .self .plan) (ruleIn (s .args .self .plan .rules) (c .before .before .before .before .loop .i)))
-          (not-false _ (rw (c .before .is-admitted .ensures (s .args .self .plan) refl) at (c .if1 .left))),
+      and-left _ (enforceable (s .args .plan) (ruleIn (s .args .plan .rules) (c .before .before .before .before .loop .i)))
+          (not-false _ (rw (c .before .is-admitted .ensures (s .args .plan) refl) at (c .if1 .left))),
     )
 
 returns-2 : tie.Need-returns-2 Inv-loop μ-loop
 returns-2 c =
-    let s = c .before .before .before .before .before .before .before .before .before .before .before in
-    sym (rule-breaks (s .args .self) (s .pre .1) (s .pre .3) (c .before .before .before .before .before .before .loop .i) (c .before .before .before .before .before .loop-test .taken)
-    (not-true _ (rw (c .before .does-hold .ensures (lines (s .args .self)) (s .pre .2)) at (c .if2 .taken))))
+    let s = c .before .before .before .before .before .before .before .before .before in
+    λ f closed h placed pass.
+    sym (rule-breaks (s .args .plan) f (s .args .t2) closed h (s .pre .1) pass (c .before .before .before .before .before .before .loop .i) (c .before .before .before .before .before .loop-test .taken)
+    (not-true _ (rw (c .before .does-hold .ensures h placed) at (c .if2 .taken))))
 
 add-i : tie.Need-add-i Inv-loop μ-loop
 add-i c = search needs
@@ -80,21 +81,22 @@ loop-less c = search needs
 
 loop-again : tie.Need-loop-again Inv-loop μ-loop
 loop-again c =
-    let s = c .before .before .before .before .before .before .before .before .before .before .before in
+    let s = c .before .before .before .before .before .before .before .before .before in
     let i = c .before .before .before .before .before .before .loop in (
       omega arith,
       λ p h same placed.
           below-more _ _ (i .inv .1 p h same placed)
-          (kept-both p (eventCount (s .args .self .plan)) h (s .args .self .broken) (s .args .self .plan .rules) (i .i)
+          (kept-both p (eventCount (s .args .plan)) h (s .args .t2) (s .args .plan .rules) (i .i)
           (not-false _ (rw (c .before .before .before .is-admitted .ensures p same) at (c .before .before .if1 .left)))
           (not-false _ (rw (c .before .does-hold .ensures h placed) at (c .if2 .left)))),
     )
 
 returns-3 : tie.Need-returns-3 Inv-loop μ-loop
 returns-3 c =
-    let s = c .before .before .before .before .before .before in
-    sym (rules-pass (s .args .self) (s .pre .1) (s .pre .3)
-    (λ k lt. c .before .loop .inv .1 (s .args .self .plan) (lines (s .args .self)) refl (s .pre .2) k (omega arith)))
+    let s = c .before .before .before .before in
+    λ f closed h placed pass.
+    sym (rules-pass (s .args .plan) f (s .args .t2) closed h (s .pre .1) pass
+    (λ k lt. c .before .loop .inv .1 (s .args .plan) h refl placed k (omega arith)))
 
 pub are-rules-coherent-spec : {M : Type 1} → statement M
 are-rules-coherent-spec =

@@ -3,22 +3,32 @@ use Prim.Native.Nat.{ℕ, _+_, _≤_, _<_, min}
 use native.Mathlib.Omega.{arith}
 use native.Mathlib.Decide.{ℕ-discrete, decLt}
 use borrow.Author.Tests.{lt-ltb, le-ltb, ltb-false, leb-true, leb-false, eq-eqb, ne-eqb, not-false}
-use mathlib.Core.Bool.{Bool, true, false, not, _&&_, _||_, and-true, and-false, or-false}
+use mathlib.Core.Bool.{Bool, true, false, not, _&&_, _||_, cond, and-true, and-false, or-false}
 use mathlib.Core.List.{List, [], _∷_, _++_, append-nil}
 use mathlib.Core.Logic.{_≢_, _⊎_, inl, inr}
 use mathlib.Core.Path.{_≡_, refl, sym, _∙_, ap}
 use lib.Dec.{eqb, ltb, leb}
 use lib.ListN.{length, take, drop, getD, set, replicate, length-set, length-replicate}
-use Rattle.plan.specs.Prelude.{Fate, Open, Standing, Entry}
+use lib.Seq.{getD-set-same, getD-set-other}
+use Rattle.coherence.specs.Prelude.{Fate, Open, Standing, Entry}
 use Rattle.plan.specs.Base.{readAt}
 use Rattle.plan.specs.Fates.{Fates, isDone, isSettled, sameFate, fateNumber, blankStanding, fatesOf}
 use Rattle.plan.specs.Histories.{blankEntry, fateIf, fatesIn, anyDone, doneIn, doneInTurn, declaredOnly, sameFates, listedAs}
-use Rattle.plan.specs.Listings.{Placed, placeIn, Told, Listed}
+use Rattle.coherence.specs.Listings.{Placed, placeIn, Told, Listed}
 use Rattle.plan.proofs.Tests.{clash, or-either, or-left, or-right, and-left, and-right}
-use Rattle.plan.proofs.Arrays.{read-past, read-in, read-blank, set-same, set-other}
+use Rattle.plan.proofs.Arrays.{read-past, read-in, read-blank}
 use Rattle.plan.proofs.Fates.{fate-same}
 use Rattle.plan.proofs.Loops.{all-fail}
-use Rattle.plan.proofs.Lines.{fates-append, doneIn-append, doneIn-none, turn-append, declared-append, lines-next, lines-cut, lines-all, undeclared-line, wrong-line}
+use Rattle.plan.proofs.Lines.{fates-append, doneIn-append, doneIn-none, turn-append}
+use Rattle.coherence.proofs.Lines.{declared-append, lines-next, lines-cut, lines-all, undeclared-line, wrong-line}
+
+-- after a store that the code makes within the array
+module _ {A : Type 0} (n : ℕ) (l : List A) (i : ℕ) (a d : A) where
+  pub set-same : i < length l → i < n → readAt n (set l i a) i d ≡ a
+  set-same h lt = read-in n (set l i a) i d lt ∙ getD-set-same l i a d h
+
+  pub set-other : (j : ℕ) → j ≢ i → readAt n (set l i a) j d ≡ readAt n l j d
+  set-other j ne = ap (λ x. cond (ltb j n) x d) (getD-set-other l i j a d ne)
 
 -- the places after one line more: the same, where it is not of an event that is done
 module _ (h : List Entry) (l : Entry) (place : ℕ → ℕ) (p : Placed h place) where

@@ -5,10 +5,10 @@ use borrow.Author.Needs.{needs}
 use mathlib.Core.Logic.{⊎-elim}
 use mathlib.Core.Path.{refl, sym, _∙_}
 use lib.ListN.{getD}
 use Rattle.plan.specs.Histories.{blankEntry}
-use Rattle.plan.proofs.Listings.{Turn, turn-start, in-place, turn-undeclared, turn-wrong, turn-gone, turn-done, turn-all}
-use Rattle.plan.proofs.history.list_events.Statement.{statement}
-use Rattle.plan.proofs.history.list_events.Tie as tie
+use Rattle.coherence.proofs.Listings.{Turn, turn-start, in-place, turn-undeclared, turn-wrong, turn-gone, turn-done, turn-all}
+use Rattle.coherence.proofs.listing.list_events.Statement.{statement}
+use Rattle.coherence.proofs.listing.list_events.Tie as tie
 
 abbrev Inv-loop : tie.InvT-loop
 Inv-loop len count history standings n listed₀ places₀ i₀ listed places i = Turn history len count standings listed places i

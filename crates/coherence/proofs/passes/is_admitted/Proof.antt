@@ -1,7 +1,7 @@
 -- `is_admitted` meets its contract.
 use borrow.Author.Needs.{needs}
-use Rattle.plan.proofs.rule.is_admitted.Statement.{statement}
-use Rattle.plan.proofs.rule.is_admitted.Tie as tie
+use Rattle.coherence.proofs.passes.is_admitted.Statement.{statement}
+use Rattle.coherence.proofs.passes.is_admitted.Tie as tie
 
 are-named-requires : tie.Need-are-named-requires
 are-named-requires c κs = search needs

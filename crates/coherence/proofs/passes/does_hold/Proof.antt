@@ -1,8 +1,8 @@
 -- `does_hold` meets its contract.
 use borrow.Author.Needs.{needs}
-use Rattle.scheduler.proofs.CoherentTests.{order-inside, need-inside, conditional-inside, order-holds, need-holds, conditional-holds}
-use Rattle.scheduler.proofs.coherent.does_hold.Statement.{statement}
-use Rattle.scheduler.proofs.coherent.does_hold.Tie as tie
+use Rattle.coherence.proofs.CoherentTests.{order-inside, need-inside, conditional-inside, order-holds, need-holds, conditional-holds}
+use Rattle.coherence.proofs.passes.does_hold.Statement.{statement}
+use Rattle.coherence.proofs.passes.does_hold.Tie as tie
 
 enum-known-rule : tie.Need-enum-known-rule
 enum-known-rule c = search needs

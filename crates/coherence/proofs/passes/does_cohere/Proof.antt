@@ -1,0 +1,64 @@
+-- `does_cohere` meets its contract.
+use borrow.Author.Needs.{needs}
+use borrow.Author.Tests.{not-true, not-false}
+use mathlib.Core.Path.{sym, _∙_}
+use lib.ListN.{take}
+use Rattle.plan.specs.Fates.{fatesOf}
+use Rattle.coherence.proofs.CoherentTests.{many-fail, few-events, few-rules, lines-fail, events-fail, rules-decide}
+use Rattle.coherence.proofs.passes.does_cohere.Statement.{statement}
+use Rattle.coherence.proofs.passes.does_cohere.Tie as tie
+
+returns : tie.Need-returns
+returns c =
+    let s = c .before in
+    sym (many-fail (s .args .plan) (fatesOf (s .args .standings)) (s .args .broken) (s .args .closed) (take (s .args .len) (s .args .history)) (s .args .len) (c .if1 .taken))
+
+list-events-requires : tie.Need-list-events-requires
+list-events-requires c κs = search needs
+
+returns-2 : tie.Need-returns-2
+returns-2 c =
+    let s = c .before .before .before .before in
+    sym (lines-fail (s .args .plan) (fatesOf (s .args .standings)) (s .args .broken) (s .args .closed) (take (s .args .len) (s .args .history)) (s .args .len)
+    (c .before .before .list-events .ensures .fails (not-true _ (c .if2 .taken))))
+
+are-events-coherent-requires : tie.Need-are-events-coherent-requires
+are-events-coherent-requires c κs =
+    let s = c .before .before .before .before .before .before in
+    few-events (s .args .plan) (fatesOf (s .args .standings)) (s .args .broken) (s .args .closed) (take (s .args .len) (s .args .history)) (s .args .len) (c .before .before .before .before .before .if1 .left)
+
+returns-3 : tie.Need-returns-3
+returns-3 c =
+    let s = c .before .before .before .before .before .before .before .before in
+    let told = c .before .before .before .before .before .before .list-events .ensures .passes (not-false _ (c .before .before .before .before .if2 .left)) in
+    sym (events-fail (s .args .plan) (fatesOf (s .args .standings)) (s .args .broken) (s .args .closed) (take (s .args .len) (s .args .history)) (s .args .len)
+    (not-true _ (rw (c .before .are-events-coherent .ensures _ (told .events)) at (c .if3 .taken))))
+
+are-rules-coherent-requires : tie.Need-are-rules-coherent-requires
+are-rules-coherent-requires c κs =
+    let s = c .before .before .before .before .before .before .before .before in
+    let few = c .before .before .before .before .before .before .before .if1 .left in (
+      few-events (s .args .plan) (fatesOf (s .args .standings)) (s .args .broken) (s .args .closed) (take (s .args .len) (s .args .history)) (s .args .len) few,
+      few-rules (s .args .plan) (fatesOf (s .args .standings)) (s .args .broken) (s .args .closed) (take (s .args .len) (s .args .history)) (s .args .len) few,
+    )
+
+returns-4 : tie.Need-returns-4
+returns-4 c =
+    let s = c .before .before .before .before .before .before .before .before .before in
+    let told = c .before .before .before .before .before .before .before .list-events .ensures .passes (not-false _ (c .before .before .before .before .before .if2 .left)) in
+    let pass = not-false _ (rw (c .before .before .are-events-coherent .ensures _ (told .events)) at (c .before .if3 .left)) in
+    c .are-rules-coherent .ensures _ _ _ (told .placed) pass
+    ∙ sym (rules-decide (s .args .plan) (fatesOf (s .args .standings)) (s .args .broken) (s .args .closed) (take (s .args .len) (s .args .history)) (s .args .len)
+    (c .before .before .before .before .before .before .before .before .if1 .left) (told .declared) pass)
+
+pub does-cohere-spec : {M : Type 1} → statement M
+does-cohere-spec =
+    tie.close
+    (tie.spec
+    returns
+    list-events-requires
+    returns-2
+    are-events-coherent-requires
+    returns-3
+    are-rules-coherent-requires
+    returns-4)

@@ -1,0 +1,152 @@
+// The tests of number 12: of single events and rules, the passes over all of them, and the whole. Any parts are read,
+// also those of a state that a caller made up. A pass does not get the history: it says what holds of every history that
+// goes with what it gets.
+use super::listing::list_events;
+use plan::event::Event;
+use plan::event::are_bad;
+use plan::event::is_delayable;
+use plan::fate::Fate;
+use plan::fate::Standing;
+use plan::fate::is_held;
+use plan::fate::is_open;
+use plan::fate::is_settled;
+use plan::history::Entry;
+use plan::plan::Plan;
+use plan::rule::Rule;
+use plan::rule::are_named;
+use plan::rule::is_enforceable;
+ghost use mathlib.Core.Bool.{Bool, true, not, _&&_};
+ghost use mathlib.Core.List.{List};
+ghost use mathlib.Core.Path.{_≡_};
+ghost use Prim.Native.Nat.{ℕ, _≤_};
+ghost use lib.ListN.{take};
+ghost use Rattle.plan.specs.Fates.{Fates, isHeld, fatesOf};
+ghost use Rattle.plan.specs.Plans.{holdsBit, eventCount, ruleCount};
+ghost use Rattle.plan.specs.Rules.{badStep, badAttributes, named, enforceable};
+ghost use Rattle.plan.specs.Histories.{holds};
+ghost use Rattle.coherence.specs.Listings.{Placed, placeIn, Marked};
+ghost use Rattle.coherence.specs.Cohering.{eventsCohere, rulesCohere, coheres};
+
+// Do the parts of a state hang together? Where they do not, number 12 applies.
+pub fn does_cohere(
+    plan: Plan,
+    standings: [Standing; 16],
+    broken: [bool; 16],
+    closed: [bool; 8],
+    history: [Entry; 16],
+    len: u8,
+) -> bool
+    ensures { λ r. ⌜ r ≡ coheres plan (fatesOf standings) broken closed (take len history) len ⌝ }
+{
+    let event_count = plan.event_count;
+    let rule_count = plan.rule_count;
+    if !((event_count <= 16) & (rule_count <= 16) & (len <= 16)) {
+        return false;
+    }
+    let listing = list_events(history, len, event_count, standings);
+    if !listing.ok {
+        return false;
+    }
+    let listed = listing.listed;
+    let places = listing.places;
+    if !are_events_coherent(plan, standings, closed, listed) {
+        return false;
+    }
+    are_rules_coherent(plan, broken, places)
+}
+
+// Do the declared events hang together with the history and the steps? `listed` says which have a line.
+fn are_events_coherent(
+    plan: Plan,
+    standings: [Standing; 16],
+    closed: [bool; 8],
+    listed: [bool; 16],
+) -> bool
+    requires { ⌜ eventCount plan ≤ 16 ⌝ }
+    ensures { λ r. ⌜ ((h : List Entry) → Marked h (fatesOf standings) listed → r ≡ eventsCohere plan (fatesOf standings) closed h) ⌝ }
+{
+    let event_count = plan.event_count;
+    let events = plan.events;
+    let mut i: u8 = 0;
+    while i < event_count {
+        let event = events[i as usize];
+        let standing = standings[i as usize];
+        let fate = standing.fate;
+        if !is_sound(event) {
+            return false;
+        }
+        let step = event.step;
+        if (is_settled(fate) & !listed[i as usize])
+            | !may_be_held(event, fate)
+            | (is_open(fate) & closed[step as usize])
+        {
+            return false;
+        }
+        i += 1;
+    }
+    true
+}
+
+// Would a sheet be admitted with the event?
+fn is_sound(event: Event) -> bool
+    ensures { λ r. ⌜ r ≡ (not (badStep (event .step)) && not (badAttributes (event .attributes))) ⌝ }
+{
+    !(7 < event.step) & !are_bad(event.attributes)
+}
+
+// A held event is delayable.
+fn may_be_held(event: Event, fate: Fate) -> bool
+    ensures { λ r. ⌜ r ≡ not (isHeld fate && not (holdsBit 4 (event .attributes))) ⌝ }
+{
+    !(is_held(fate) & !is_delayable(event.attributes))
+}
+
+// Do the declared rules hang together with the events and the history? The events do; `places` says which are done,
+// and in which order.
+fn are_rules_coherent(plan: Plan, broken: [bool; 16], places: [u8; 16]) -> bool
+    requires { ⌜ (eventCount plan ≤ 16) × (ruleCount plan ≤ 16) ⌝ }
+    ensures { λ r. ⌜ ((f : Fates) (closed : List Bool) (h : List Entry) → Placed h (placeIn places) → eventsCohere plan f closed h ≡ true → r ≡ rulesCohere plan f broken h) ⌝ }
+{
+    let event_count = plan.event_count;
+    let rule_count = plan.rule_count;
+    let events = plan.events;
+    let rules = plan.rules;
+    let mut i: u8 = 0;
+    while i < rule_count {
+        let line = rules[i as usize];
+        let rule = line.rule;
+        if !is_admitted(event_count, events, rule) {
+            return false;
+        }
+        if !(broken[i as usize] | does_hold(places, rule)) {
+            return false;
+        }
+        i += 1;
+    }
+    true
+}
+
+// Would a sheet with these events be admitted with the rule?
+fn is_admitted(count: u8, events: [Event; 16], rule: Rule) -> bool
+    ensures { λ r. ⌜ ((p : Plan) → p .events ≡ events → r ≡ (named count rule && enforceable p rule)) ⌝ }
+{
+    are_named(count, rule) & is_enforceable(events, rule)
+}
+
+// Does the rule hold? Its events have places: 0 for one that is not done, else a number in the order of the history.
+fn does_hold(places: [u8; 16], rule: Rule) -> bool
+    requires { ⌜ ((n : ℕ) × (n ≤ 16) × (named n rule ≡ true)) ⌝ }
+    ensures { λ r. ⌜ ((h : List Entry) → Placed h (placeIn places) → r ≡ holds h rule) ⌝ }
+{
+    match rule {
+        Rule::Order(a, b) => {
+            let first = places[a as usize];
+            let last = places[b as usize];
+            !((0 < last) & (last < first))
+        }
+        Rule::Need(a, b) => !((0 < places[a as usize]) & !(0 < places[b as usize])),
+        Rule::Conditional(a, b, c) => {
+            !((0 < places[a as usize]) & (0 < places[b as usize]) & !(0 < places[c as usize]))
+        }
+    }
+}
