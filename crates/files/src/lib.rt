@@ -36,7 +36,8 @@ pub extern "C" fn sinewhopa_files() -> i32
     }
     let sheet_len = sheet_read.len;
     let calls_len = calls_read.len;
-    let n = sinewhopa::sinewhopa_run(&sheet[..sheet_len], &calls[..calls_len], &mut out);
+    let outcome = lists::run::run(&sheet[..sheet_len], &calls[..calls_len]);
+    let n = report::write_report(outcome, &mut out);
     print_report(&out[..n])
 }
 

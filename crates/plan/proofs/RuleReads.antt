@@ -29,6 +29,10 @@ module _ (p : Plan) where
     pub bit-past : 16 ≤ e → x ≡ 0 → r ≡ holdsBit k (attributesOf p e)
     bit-past ge is = attributes-read (ap (λ (w : Event). w .attributes) (read-past 16 events e blankEvent ge) ∙ sym is)
 
+  -- the same of an event by another name for it
+  pub bit-named : (k n e : ℕ) (r : Bool) → n ≡ e → r ≡ holdsBit k (attributesOf p n) → r ≡ holdsBit k (attributesOf p e)
+  bit-named k n e r same h = h ∙ ap (λ (x : ℕ). holdsBit k (attributesOf p x)) same
+
   module _ (rule : Rule) (a b : ℕ) where
     pub order-enforced : (x y : Bool)
         → rule ≡ Order a b

@@ -1,4 +1,4 @@
--- What has to be believed of a plan: its definitions, lowest first.
+-- What has to be believed of a plan: its definitions, lowest first; `Internal` is for private functions.
 pub mod Prelude
 pub mod Base
 pub mod Fates
@@ -9,3 +9,4 @@ pub mod Faults
 pub mod Records
 pub mod Sheets
 pub mod Calls
+pub mod Internal

@@ -7,6 +7,7 @@ use super::event::is_rejectable;
 ghost use mathlib.Core.Path.{_≡_};
 ghost use Rattle.plan.specs.Prelude.{Plan};
 ghost use Rattle.plan.specs.Rules.{named, enforceable};
+ghost use Rattle.plan.specs.Internal.Names.{namesOf};
 
 // Order a, b: a before b. Need a, b: a only if b. Conditional a, b, c: if a and b, then c.
 pub enum Rule {
@@ -18,6 +19,13 @@ pub enum Rule {
 // A rule in its place.
 pub struct RuleLine {
     pub rule: Rule,
+}
+
+// The events that a rule names, by their place in it.
+struct Names {
+    first: u8,
+    second: u8,
+    last: u8,
 }
 
 // Are the rule's events declared, and none named twice?
@@ -38,50 +46,53 @@ pub fn are_named(count: u8, rule: Rule) -> bool
 pub fn is_enforceable(events: [Event; 16], rule: Rule) -> bool
     ensures { λ r. ⌜ ((p : Plan) → p .events ≡ events → r ≡ enforceable p rule) ⌝ }
 {
+    let names = names_of(rule);
+    let a = names.first;
+    let b = names.second;
+    let c = names.last;
+    let mut first: u8 = 0;
+    if a < 16 {
+        let event = events[a as usize];
+        first = event.attributes;
+    }
+    let mut second: u8 = 0;
+    if b < 16 {
+        let event = events[b as usize];
+        second = event.attributes;
+    }
+    let mut last: u8 = 0;
+    if c < 16 {
+        let event = events[c as usize];
+        last = event.attributes;
+    }
     match rule {
-        Rule::Order(a, b) => {
-            let mut first: u8 = 0;
-            if a < 16 {
-                let event = events[a as usize];
-                first = event.attributes;
-            }
-            let mut last: u8 = 0;
-            if b < 16 {
-                let event = events[b as usize];
-                last = event.attributes;
-            }
-            is_delayable(last) | is_rejectable(first)
-        }
-        Rule::Need(a, b) => {
-            let mut first: u8 = 0;
-            if a < 16 {
-                let event = events[a as usize];
-                first = event.attributes;
-            }
-            let mut last: u8 = 0;
-            if b < 16 {
-                let event = events[b as usize];
-                last = event.attributes;
-            }
-            is_rejectable(first) | is_forcible(last)
-        }
-        Rule::Conditional(a, b, c) => {
-            let mut first: u8 = 0;
-            if a < 16 {
-                let event = events[a as usize];
-                first = event.attributes;
-            }
-            let mut second: u8 = 0;
-            if b < 16 {
-                let event = events[b as usize];
-                second = event.attributes;
-            }
-            let mut last: u8 = 0;
-            if c < 16 {
-                let event = events[c as usize];
-                last = event.attributes;
-            }
+        Rule::Order(x, y) => is_delayable(last) | is_rejectable(first),
+        Rule::Need(x, y) => is_rejectable(first) | is_forcible(last),
+        Rule::Conditional(x, y, z) => {
             is_rejectable(first) | is_rejectable(second) | is_forcible(last)
         }
+    }
+}
+
+// The events that a rule names; of two the second is also the last.
+fn names_of(rule: Rule) -> Names
+    ensures { λ r. ⌜ r ≡ namesOf rule ⌝ }
+{
+    match rule {
+        Rule::Order(a, b) => Names {
+            first: a,
+            second: b,
+            last: b,
+        },
+        Rule::Need(a, b) => Names {
+            first: a,
+            second: b,
+            last: b,
+        },
+        Rule::Conditional(a, b, c) => Names {
+            first: a,
+            second: b,
+            last: c,
+        },
     }
 }
