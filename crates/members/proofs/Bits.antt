@@ -103,7 +103,7 @@ in-past m x h = rw (le-ltb x 16 h)
 
 -- the set of one event, as code makes it
 abbrev pub lone : ℕ → ℕ
-lone e = 1 * 2 ^ e % 4294967296
+lone e = 1 * 2 ^ e % 65536
 
 agree : Bool → Bool → Bool
 agree true b = b

@@ -20,11 +20,11 @@ pub fn blocked_in(
     broken: [bool; 16],
     count: u8,
     view: View,
-    left: u32,
-) -> u32
+    left: u16,
+) -> u16
     ensures { λ r. ⌜ ((p : Plan) (f : Fates) → p .rules ≡ rules → ruleCount p ≡ count → Shows p f view → (x : ℕ) → x < 16 → inSet r x ≡ blocked p (unbroken broken) f (inSet left) x) ⌝ }
 {
-    let mut blocked: u32 = 0;
+    let mut blocked: u16 = 0;
     let mut i: u8 = 0;
     while i < count {
         if i < 16 {
@@ -42,7 +42,7 @@ pub fn blocked_in(
 }
 
 // The set with the events that the rule forbids for good, or puts after one of those left.
-fn add_blocked(set: u32, rule: Rule, view: View, left: u32) -> u32
+fn add_blocked(set: u16, rule: Rule, view: View, left: u16) -> u16
     ensures { λ r. ⌜ ((p : Plan) (f : Fates) → Shows p f view → (x : ℕ) → x < 16 → inSet r x ≡ ((bars p f rule x || follows p (inSet left) rule x) || inSet set x)) ⌝ }
 {
     match rule {

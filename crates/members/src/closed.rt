@@ -17,7 +17,7 @@ ghost use Rattle.members.specs.Growing.{Added, Sure, Passed, Closes};
 // Some events, and how many; or that there are none that would do.
 pub struct Members {
     pub ok: bool,
-    pub set: u32,
+    pub set: u16,
     pub count: u8,
 }
 
@@ -28,7 +28,7 @@ pub fn close_set(
     broken: [bool; 16],
     count: u8,
     view: View,
-    able: u32,
+    able: u16,
     event: u8,
 ) -> Members
     ensures { λ r. ⌜ ((p : Plan) (f : Fates) → p .rules ≡ rules → ruleCount p ≡ count → Shows p f view → Closes p (unbroken broken) f (inSet able) event r) ⌝ }
@@ -63,7 +63,7 @@ fn pass_over(
     broken: [bool; 16],
     count: u8,
     view: View,
-    able: u32,
+    able: u16,
     members: Members,
 ) -> Members
     ensures { λ r. ⌜ ((p : Plan) (f : Fates) (e : ℕ) → p .rules ≡ rules → ruleCount p ≡ count → Shows p f view → Sure p (unbroken broken) f (inSet able) e members → Passed p (unbroken broken) f (inSet able) e members r) ⌝ }
@@ -87,7 +87,7 @@ fn pass_over(
 }
 
 // The members after a rule.
-fn add_target(members: Members, rule: Rule, view: View, able: u32) -> Members
+fn add_target(members: Members, rule: Rule, view: View, able: u16) -> Members
     ensures { λ r. ⌜ ((p : Plan) (f : Fates) → Shows p f view → members .ok ≡ true → Added p f (inSet able) members rule r) ⌝ }
 {
     if does_ask(rule, members.set, view) {
@@ -122,7 +122,7 @@ fn target_of(rule: Rule) -> u8
 }
 
 // Does the rule ask for it, when the members are to be done?
-fn does_ask(rule: Rule, members: u32, view: View) -> bool
+fn does_ask(rule: Rule, members: u16, view: View) -> bool
     ensures { λ r. ⌜ ((p : Plan) (f : Fates) → Shows p f view → r ≡ asks p f (inSet members) rule) ⌝ }
 {
     match rule {

@@ -16,7 +16,7 @@ ghost use Rattle.members.specs.Lacking.{lacking, Spared};
 
 // The events at hand, without those of which a rule asks for an event that is not at hand, once over the rules. The last
 // rule comes first: so a chain of needs, as it is mostly written down, falls in one pass.
-pub fn spare(rules: [RuleLine; 16], broken: [bool; 16], count: u8, view: View) -> u32
+pub fn spare(rules: [RuleLine; 16], broken: [bool; 16], count: u8, view: View) -> u16
     ensures { λ r. ⌜ ((p : Plan) (f : Fates) → p .rules ≡ rules → ruleCount p ≡ count → Shows p f view → Spared p (unbroken broken) f (inSet (view .able)) (inSet r)) ⌝ }
 {
     let mut able = view.able;
@@ -35,7 +35,7 @@ pub fn spare(rules: [RuleLine; 16], broken: [bool; 16], count: u8, view: View) -
 }
 
 // The events without the one of which the rule asks for an event that is neither among them nor settled.
-fn drop_lacking(able: u32, rule: Rule, view: View) -> u32
+fn drop_lacking(able: u16, rule: Rule, view: View) -> u16
     ensures { λ r. ⌜ ((p : Plan) (f : Fates) → Shows p f view → (x : ℕ) → inSet r x ≡ (inSet able x && not (lacking p f (inSet able) rule x))) ⌝ }
 {
     let here = able | view.done | view.gone;

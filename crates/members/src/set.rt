@@ -7,43 +7,43 @@ ghost use Rattle.plan.specs.Base.{lowest};
 ghost use Rattle.members.specs.Sets.{inSet, orSixteen};
 
 // Is the event in the set?
-pub fn is_in(set: u32, event: u8) -> bool
+pub fn is_in(set: u16, event: u8) -> bool
     ensures { λ r. ⌜ r ≡ inSet set event ⌝ }
 {
     if event < 16 {
-        (set >> (event as u32)) & 1 == 1
+        (set >> (event as u16)) & 1 == 1
     } else {
         false
     }
 }
 
 // The set with one event more, where told to; past the places there is none.
-pub fn with_if(set: u32, event: u8, is: bool) -> u32
+pub fn with_if(set: u16, event: u8, is: bool) -> u16
     ensures { λ r. ⌜ ((x : ℕ) → inSet r x ≡ ((eqb x event && (ltb event 16 && is)) || inSet set x)) ⌝ }
 {
     if is & (event < 16) {
-        set | (1u32 << (event as u32))
+        set | (1u16 << (event as u16))
     } else {
         set
     }
 }
 
 // The events of both sets.
-pub fn common(set: u32, other: u32) -> u32
+pub fn common(set: u16, other: u16) -> u16
     ensures { λ r. ⌜ ((x : ℕ) → inSet r x ≡ (inSet set x && inSet other x)) ⌝ }
 {
     set & other
 }
 
 // The events of one set that are not in the other.
-pub fn without(set: u32, other: u32) -> u32
+pub fn without(set: u16, other: u16) -> u16
     ensures { λ r. ⌜ ((x : ℕ) → inSet r x ≡ (inSet set x && not (inSet other x))) ⌝ }
 {
     set ^ (set & other)
 }
 
 // The lowest event of the set; 16 if there is none.
-pub fn lowest_of(set: u32) -> u8
+pub fn lowest_of(set: u16) -> u8
     ensures { λ r. ⌜ r ≡ orSixteen (lowest 16 (inSet set)) ⌝ }
 {
     let mut e: u8 = 0;

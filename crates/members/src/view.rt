@@ -20,22 +20,22 @@ ghost use Rattle.members.specs.Sets.{Shows};
 // The declared events that are held, the declared ones at hand (held, or open and forcible), those that are done,
 // those refused or lapsed, and those that may wait.
 pub struct View {
-    pub held: u32,
-    pub able: u32,
-    pub done: u32,
-    pub gone: u32,
-    pub waits: u32,
+    pub held: u16,
+    pub able: u16,
+    pub done: u16,
+    pub gone: u16,
+    pub waits: u16,
 }
 
 // The view of a plan's events and their fates; past the count nothing is held or at hand.
 pub fn view_of(events: [Event; 16], count: u8, standings: [Standing; 16]) -> View
     ensures { λ r. ⌜ ((p : Plan) → p .events ≡ events → eventCount p ≡ count → Shows p (fatesOf standings) r) ⌝ }
 {
-    let mut held: u32 = 0;
-    let mut able: u32 = 0;
-    let mut done: u32 = 0;
-    let mut gone: u32 = 0;
-    let mut waits: u32 = 0;
+    let mut held: u16 = 0;
+    let mut able: u16 = 0;
+    let mut done: u16 = 0;
+    let mut gone: u16 = 0;
+    let mut waits: u16 = 0;
     let mut e: u8 = 0;
     while e < 16 {
         let standing = standings[e as usize];

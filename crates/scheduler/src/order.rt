@@ -50,7 +50,7 @@ impl State {
 
     // The order of the members. Held events first (7.9): an order in which no open event is forced is made of held members
     // alone, and there is one only where all are held; else the others are forced.
-    pub(crate) fn find_among(self, view: View, members: u32) -> Found
+    pub(crate) fn find_among(self, view: View, members: u16) -> Found
         requires { ⌜ Shows (self .plan) (fateOf self) view ⌝ }
         ensures { λ r. ⌜ r ≡ foundFrom 0 (stepwise (self .plan) (stands self) 6 (fateOf self) (inSet members)) ⌝ }
     {
@@ -82,7 +82,7 @@ impl State {
 // The events that are left, always the lowest that no other of them has to come before; none if there is no such event,
 // or no place. It goes on an order of `at` events: its own stand at `at` and after, and the length counts both. The view is
 // the state's. After the last event the search need not call itself.
-fn search(s: State, view: View, left: u32, at: u8, places: u8) -> Found
+fn search(s: State, view: View, left: u16, at: u8, places: u8) -> Found
     requires { ⌜ ((at + places ≤ 6) × Shows (s .plan) (fateOf s) view) ⌝ }
     ensures { λ r. ⌜ r ≡ foundFrom at (stepwise (s .plan) (stands s) places (fateOf s) (inSet left)) ⌝ }
 {

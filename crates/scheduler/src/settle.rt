@@ -74,7 +74,7 @@ impl State {
 
     // The events at hand that are worth a search; where several events are held, one pass over the rules tells of some
     // that are not.
-    fn find_hopeful(self, view: View) -> u32
+    fn find_hopeful(self, view: View) -> u16
         requires { ⌜ Shows (self .plan) (fateOf self) view ⌝ }
         ensures { λ r. ⌜ Hopeful self (inSet r) ⌝ }
     {

@@ -32,26 +32,29 @@ returns-2 c = search needs
 array-share-prefix-sheet : tie.Need-array-share-prefix-sheet
 array-share-prefix-sheet c = search needs
 
-slice-aggregate-sinewhopa-run : tie.Need-slice-aggregate-sinewhopa-run
-slice-aggregate-sinewhopa-run c = search needs
+slice-aggregate-run : tie.Need-slice-aggregate-run
+slice-aggregate-run c = search needs
 
 array-share-prefix-calls : tie.Need-array-share-prefix-calls
 array-share-prefix-calls c = search needs
 
-slice-aggregate-sinewhopa-run-2 : tie.Need-slice-aggregate-sinewhopa-run-2
-slice-aggregate-sinewhopa-run-2 c = search needs
+slice-aggregate-run-2 : tie.Need-slice-aggregate-run-2
+slice-aggregate-run-2 c = search needs
 
-slice-aggregate-sinewhopa-run-3 : tie.Need-slice-aggregate-sinewhopa-run-3
-slice-aggregate-sinewhopa-run-3 c = search needs
+run-requires : tie.Need-run-requires
+run-requires c κs = search needs
 
-sinewhopa-run-requires : tie.Need-sinewhopa-run-requires
-sinewhopa-run-requires c κs = search needs
+slice-aggregate-write-report : tie.Need-slice-aggregate-write-report
+slice-aggregate-write-report c = search needs
+
+write-report-requires : tie.Need-write-report-requires
+write-report-requires c κs = search needs
 
 array-share-prefix-out : tie.Need-array-share-prefix-out
 array-share-prefix-out c = search needs
 
 slice-aggregate-print-report : tie.Need-slice-aggregate-print-report
-slice-aggregate-print-report c = front _ _ (omega (arith, c .before .before .sinewhopa-run .kept .1 .1 .0, c .before .before .sinewhopa-run .ensures .1 .1))
+slice-aggregate-print-report c = front _ _ (omega (arith, c .before .before .write-report .kept .1 .0, c .before .before .write-report .ensures .1 .1))
 
 print-report-requires : tie.Need-print-report-requires
 print-report-requires c κs = search needs
@@ -72,11 +75,12 @@ sinewhopa-files-spec =
     read-file-requires-2
     returns-2
     array-share-prefix-sheet
-    slice-aggregate-sinewhopa-run
+    slice-aggregate-run
     array-share-prefix-calls
-    slice-aggregate-sinewhopa-run-2
-    slice-aggregate-sinewhopa-run-3
-    sinewhopa-run-requires
+    slice-aggregate-run-2
+    run-requires
+    slice-aggregate-write-report
+    write-report-requires
     array-share-prefix-out
     slice-aggregate-print-report
     print-report-requires
