@@ -250,19 +250,9 @@ module _ (rule : Rule) (a b : ℕ) (names : (n : ℕ) × (n ≤ 16) × (named n 
         rw (is, p .done a, p .done b, p .done c, lt-ltb a 16 (q .0), lt-ltb b 16 (q .1), lt-ltb c 16 (q .2))
 
 -- the tests of number 12 in turn: the first that fails decides
-module _ (p : Plan) (f : Fates) (broken closed : List Bool) (h : List Entry) (len : ℕ) where
+module _ (p : Plan) (len : ℕ) where
   abbrev few : Bool
   few = leb (eventCount p) 16 && leb (ruleCount p) 16 && leb len 16
-
-  abbrev declared : Bool
-  declared = declaredOnly h (eventCount p)
-
-  abbrev events : Bool
-  events = eventsCohere p f closed h
-
-  pub many-fail : not few ≡ true → coheres p f broken closed h len ≡ false
-  unfolding coheres
-  many-fail bad = rw (not-true few bad)
 
   pub few-events : not few ≡ false → eventCount p ≤ 16
   few-events is =
@@ -276,26 +266,37 @@ module _ (p : Plan) (f : Fates) (broken closed : List Bool) (h : List Entry) (le
       (and-right (leb (eventCount p) 16) (leb (ruleCount p) 16)
       (and-left (leb (eventCount p) 16 && leb (ruleCount p) 16) (leb len 16) (not-false few is)))
 
-  pub events-fail : events ≡ false → coheres p f broken closed h len ≡ false
-  unfolding coheres
-  events-fail bad = rw (bad, and-false (few && declared))
+  module _ (f : Fates) (broken closed : List Bool) (h : List Entry) where
+    abbrev declared : Bool
+    declared = declaredOnly h (eventCount p)
 
-  -- a history that does not go with the events
-  pub lines-fail : (declared && allBelow (eventCount p) (λ e. listedAs h e (f e))) ≡ false
-      → coheres p f broken closed h len ≡ false
-  unfolding coheres
-  lines-fail bad = elim (either declared) [
-    | inr d ↦ rw (d, and-false few)
-    | inl d ↦ events-fail (elim (either events) [
-      | inr e ↦ e
-      | inl e ↦ absurd (clash (all-of (eventCount p) (λ k. listedAs h k (f k))
-          (λ k lt. event-listed p f closed h k (all-at (eventCount p) (eventCoheres p f closed h) e k lt))) (and-not declared _ bad d))
-    ])
-  ]
+    abbrev events : Bool
+    events = eventsCohere p f closed h
 
-  pub rules-decide : not few ≡ false
-      → declared ≡ true
-      → events ≡ true
-      → coheres p f broken closed h len ≡ rulesCohere p f broken h
-  unfolding coheres
-  rules-decide is d e = rw (not-false few is, d, e)
+    pub many-fail : not few ≡ true → coheres p f broken closed h len ≡ false
+    unfolding coheres
+    many-fail bad = rw (not-true few bad)
+
+    pub events-fail : events ≡ false → coheres p f broken closed h len ≡ false
+    unfolding coheres
+    events-fail bad = rw (bad, and-false (few && declared))
+
+    -- a history that does not go with the events
+    pub lines-fail : (declared && allBelow (eventCount p) (λ e. listedAs h e (f e))) ≡ false
+        → coheres p f broken closed h len ≡ false
+    unfolding coheres
+    lines-fail bad = elim (either declared) [
+      | inr d ↦ rw (d, and-false few)
+      | inl d ↦ events-fail (elim (either events) [
+        | inr e ↦ e
+        | inl e ↦ absurd (clash (all-of (eventCount p) (λ k. listedAs h k (f k))
+            (λ k lt. event-listed p f closed h k (all-at (eventCount p) (eventCoheres p f closed h) e k lt))) (and-not declared _ bad d))
+      ])
+    ]
+
+    pub rules-decide : not few ≡ false
+        → declared ≡ true
+        → events ≡ true
+        → coheres p f broken closed h len ≡ rulesCohere p f broken h
+    unfolding coheres
+    rules-decide is d e = rw (not-false few is, d, e)

@@ -24,10 +24,10 @@ use Rattle.coherence.proofs.Lines.{declared-append, lines-next, lines-c
 
 -- after a store that the code makes within the array
 module _ {A : Type 0} (n : ℕ) (l : List A) (i : ℕ) (a d : A) where
-  pub set-same : i < length l → i < n → readAt n (set l i a) i d ≡ a
+  set-same : i < length l → i < n → readAt n (set l i a) i d ≡ a
   set-same h lt = read-in n (set l i a) i d lt ∙ getD-set-same l i a d h
 
-  pub set-other : (j : ℕ) → j ≢ i → readAt n (set l i a) j d ≡ readAt n l j d
+  set-other : (j : ℕ) → j ≢ i → readAt n (set l i a) j d ≡ readAt n l j d
   set-other j ne = ap (λ x. cond (ltb j n) x d) (getD-set-other l i j a d ne)
 
 -- the places after one line more: the same, where it is not of an event that is done

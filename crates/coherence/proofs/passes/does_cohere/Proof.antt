@@ -11,7 +11,7 @@ use Rattle.coherence.proofs.passes.does_cohere.Tie as tie
 returns : tie.Need-returns
 returns c =
     let s = c .before in
-    sym (many-fail (s .args .plan) (fatesOf (s .args .standings)) (s .args .broken) (s .args .closed) (take (s .args .len) (s .args .history)) (s .args .len) (c .if1 .taken))
+    sym (many-fail (s .args .plan) (s .args .len) (fatesOf (s .args .standings)) (s .args .broken) (s .args .closed) (take (s .args .len) (s .args .history)) (c .if1 .taken))
 
 list-events-requires : tie.Need-list-events-requires
 list-events-requires c κs = search needs
@@ -19,27 +19,27 @@ list-events-requires c κs = search needs
 returns-2 : tie.Need-returns-2
 returns-2 c =
     let s = c .before .before .before .before in
-    sym (lines-fail (s .args .plan) (fatesOf (s .args .standings)) (s .args .broken) (s .args .closed) (take (s .args .len) (s .args .history)) (s .args .len)
+    sym (lines-fail (s .args .plan) (s .args .len) (fatesOf (s .args .standings)) (s .args .broken) (s .args .closed) (take (s .args .len) (s .args .history))
     (c .before .before .list-events .ensures .fails (not-true _ (c .if2 .taken))))
 
 are-events-coherent-requires : tie.Need-are-events-coherent-requires
 are-events-coherent-requires c κs =
     let s = c .before .before .before .before .before .before in
-    few-events (s .args .plan) (fatesOf (s .args .standings)) (s .args .broken) (s .args .closed) (take (s .args .len) (s .args .history)) (s .args .len) (c .before .before .before .before .before .if1 .left)
+    few-events (s .args .plan) (s .args .len) (c .before .before .before .before .before .if1 .left)
 
 returns-3 : tie.Need-returns-3
 returns-3 c =
     let s = c .before .before .before .before .before .before .before .before in
     let told = c .before .before .before .before .before .before .list-events .ensures .passes (not-false _ (c .before .before .before .before .if2 .left)) in
-    sym (events-fail (s .args .plan) (fatesOf (s .args .standings)) (s .args .broken) (s .args .closed) (take (s .args .len) (s .args .history)) (s .args .len)
+    sym (events-fail (s .args .plan) (s .args .len) (fatesOf (s .args .standings)) (s .args .broken) (s .args .closed) (take (s .args .len) (s .args .history))
     (not-true _ (rw (c .before .are-events-coherent .ensures _ (told .events)) at (c .if3 .taken))))
 
 are-rules-coherent-requires : tie.Need-are-rules-coherent-requires
 are-rules-coherent-requires c κs =
     let s = c .before .before .before .before .before .before .before .before in
     let few = c .before .before .before .before .before .before .before .if1 .left in (
-      few-events (s .args .plan) (fatesOf (s .args .standings)) (s .args .broken) (s .args .closed) (take (s .args .len) (s .args .history)) (s .args .len) few,
-      few-rules (s .args .plan) (fatesOf (s .args .standings)) (s .args .broken) (s .args .closed) (take (s .args .len) (s .args .history)) (s .args .len) few,
+      few-events (s .args .plan) (s .args .len) few,
+      few-rules (s .args .plan) (s .args .len) few,
     )
 
 returns-4 : tie.Need-returns-4
@@ -48,7 +48,7 @@ returns-4 c =
     let told = c .before .before .before .before .before .before .before .list-events .ensures .passes (not-false _ (c .before .before .before .before .before .if2 .left)) in
     let pass = not-false _ (rw (c .before .before .are-events-coherent .ensures _ (told .events)) at (c .before .if3 .left)) in
     c .are-rules-coherent .ensures _ _ _ (told .placed) pass
-    ∙ sym (rules-decide (s .args .plan) (fatesOf (s .args .standings)) (s .args .broken) (s .args .closed) (take (s .args .len) (s .args .history)) (s .args .len)
+    ∙ sym (rules-decide (s .args .plan) (s .args .len) (fatesOf (s .args .standings)) (s .args .broken) (s .args .closed) (take (s .args .len) (s .args .history))
     (c .before .before .before .before .before .before .before .before .if1 .left) (told .declared) pass)
 
 pub does-cohere-spec : {M : Type 1} → statement M
