@@ -72,17 +72,18 @@ impl State {
         lowest_of(common(view.held, barred))
     }
 
-    // The events at hand that are worth a search; where several events are held, one pass over the rules tells of some
-    // that are not.
+    // The events at hand that are worth a search. Where several events are held and some event is missing, neither settled
+    // nor at hand, one pass over the rules tells of those that are not.
     fn find_hopeful(self, view: View) -> u16
         requires { ⌜ Shows (self .plan) (fateOf self) view ⌝ }
         ensures { λ r. ⌜ Hopeful self (inSet r) ⌝ }
     {
+        let plan = self.plan;
         let one = with_if(0, lowest_of(view.held), true);
-        if one == view.held {
+        let missing = without(65535, view.able | view.done | view.gone);
+        if (one == view.held) | (plan.event_count <= lowest_of(missing)) {
             return view.able;
         }
-        let plan = self.plan;
         let rules = plan.rules;
         let broken = self.broken;
         spare(rules, broken, plan.rule_count, view)

@@ -13,18 +13,36 @@ lowest-of-requires c κs = search needs
 with-if-requires : tie.Need-with-if-requires
 with-if-requires c κs = search needs
 
+without-requires : tie.Need-without-requires
+without-requires c κs = search needs
+
+lowest-of-requires-2 : tie.Need-lowest-of-requires-2
+lowest-of-requires-2 c κs = search needs
+
+-- where the function begins
+abbrev begun : tie.After-struct-known4 → tie.Start
+begun c = c .before .before .before .before .before .before .before .before .before
+
 returns : tie.Need-returns
-returns c = hopeful-all _ _ (c .before .before .before .before .pre)
+returns c = hopeful-all _ _ (begun (c .before) .pre)
 
 spare-requires : tie.Need-spare-requires
 spare-requires c κs = search needs
 
 returns-2 : tie.Need-returns-2
 returns-2 c =
-    let st = c .before .before .before .before .before .before .before .before in
+    let st = begun (c .before .before .before .before) in
     let s = st .args .self in
     hopeful-spared s (st .args .view) _ (sized s (st .good .0)) (st .pre) (c .spare .ensures (s .plan) (fateOf s) refl refl (st .pre))
 
 pub find-hopeful-spec : {M : Type 1} → statement M
 find-hopeful-spec =
-    tie.close (tie.spec lowest-of-requires with-if-requires returns spare-requires returns-2)
+    tie.close
+    (tie.spec
+    lowest-of-requires
+    with-if-requires
+    without-requires
+    lowest-of-requires-2
+    returns
+    spare-requires
+    returns-2)
