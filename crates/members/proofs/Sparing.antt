@@ -1,7 +1,7 @@
 -- Events at hand that a single rule shows to be hopeless: one rule, and one pass over the rules.
 use Prim.Native.Nat.{ℕ}
 use borrow.Author.Tests.{not-false, eqb-true, ltb-false, not-true}
-use mathlib.Core.Bool.{Bool, true, false, not, _&&_, _||_, and-true}
+use mathlib.Core.Bool.{Bool, true, false, not, _&&_, _||_, and-true, or-false}
 use mathlib.Core.Logic.{inl, inr}
 use mathlib.Core.Path.{_≡_, refl, sym, _∙_, ap, subst}
 use lib.Bits.{bitOr}
@@ -9,12 +9,13 @@ use lib.Dec.{eqb, ltb}
 use Rattle.plan.specs.Fates.{Fates, isDone, isGone, isSettled}
 use Rattle.plan.specs.Plans.{delayable}
 use Rattle.plan.proofs.Tests.{and-left, and-right, and-not, clash, either}
-use Rattle.orders.specs.Closed.{Events, Stands, first, one, target, Fit}
+use Rattle.orders.specs.Closed.{Events, Stands, first, one, Fit}
 use Rattle.members.specs.Prelude.{Rule, Order, Need, Conditional, Plan, View}
 use Rattle.members.specs.Sets.{inSet, Shows}
 use Rattle.members.specs.Growing.{NoFit}
 use Rattle.members.specs.Lacking.{lacking, Spared}
-use Rattle.members.proofs.Bits.{in-or, in-zero, in-past}
+use Rattle.members.proofs.Bits.{in-zero, in-past}
+use Rattle.members.proofs.Targets.{one-or-other, had-read}
 
 -- a set without one event, where told to leave it out
 module _ (able one after b : ℕ) (q : Bool)
@@ -22,10 +23,6 @@ module _ (able one after b : ℕ) (q : Bool)
     (is-after : (y : ℕ) → inSet after y ≡ (inSet able y && not (inSet one y))) where
   left-out : (x : ℕ) → inSet after x ≡ (inSet able x && not ((eqb x b && (ltb b 16 && q)) || false))
   left-out x = is-after x ∙ ap (λ (t : Bool). inSet able x && not t) (is-one x ∙ ap (λ (t : Bool). (eqb x b && (ltb b 16 && q)) || t) (in-zero x))
-
-  no-more : (a : Bool) → (a || false) ≡ a
-  no-more true = refl
-  no-more false = refl
 
   past : (x : ℕ) → ltb b 16 ≡ false → (e : Bool) → eqb x b ≡ e → (inSet able x && not ((e && (false && q)) || false)) ≡ (inSet able x && not (e && q))
   past x far true is =
@@ -35,32 +32,17 @@ module _ (able one after b : ℕ) (q : Bool)
 
   pub drop-one : (x : ℕ) → inSet after x ≡ (inSet able x && not (eqb x b && q))
   drop-one x = left-out x ∙ elim (either (ltb b 16)) [
-    | inl low ↦ rw low (ap (λ (t : Bool). inSet able x && not t) (no-more (eqb x b && q)))
+    | inl low ↦ rw low (ap (λ (t : Bool). inSet able x && not t) (or-false (eqb x b && q)))
     | inr far ↦ rw far (past x far (eqb x b) refl)
   ]
 
 -- what one rule leaves of the events, over what code reads
-neither : (s d g : Bool) → not ((s || d) || g) ≡ (not (d || g) && not s)
-neither true true g = refl
-neither true false true = refl
-neither true false false = refl
-neither false true g = refl
-neither false false true = refl
-neither false false false = refl
-
-waits-neither : (w s d g : Bool) → (w && not ((s || d) || g)) ≡ ((w && not (d || g)) && not s)
-waits-neither true s d g = neither s d g
-waits-neither false s d g = refl
-
 module _ (p : Plan) (f : Fates) (v : View) (shows : Shows p f v) (able : ℕ) where
-  here-read : (t : ℕ) → inSet (bitOr (bitOr able (v .done)) (v .gone)) t ≡ ((inSet able t || isDone (f t)) || isGone (f t))
-  here-read t = rw (in-or (bitOr able (v .done)) (v .gone) t, in-or able (v .done) t, shows .done t, shows .gone t)
-
   module _ (r : Rule) (a b : ℕ) (one after : ℕ) where
     pub order-drops : r ≡ Order a b
         → (w h : Bool)
         → w ≡ inSet (v .waits) b
-        → h ≡ inSet (bitOr (bitOr able (v .done)) (v .gone)) a
+        → h ≡ inSet (bitOr (bitOr (v .done) (v .gone)) able) a
         → ((y : ℕ) → inSet one y ≡ ((eqb y b && (ltb b 16 && (w && not h))) || inSet 0 y))
         → ((y : ℕ) → inSet after y ≡ (inSet able y && not (inSet one y)))
         → (x : ℕ)
@@ -68,12 +50,12 @@ module _ (p : Plan) (f : Fates) (v : View) (shows : Shows p f v) (able : ℕ) wh
     unfolding lacking
     order-drops is w h waits here is-one is-after x =
         drop-one able one after b (w && not h) is-one is-after x
-        ∙ rw (is, waits, shows .waits b, here, here-read a)
-        (ap (λ (t : Bool). inSet able x && not (eqb x b && t)) (waits-neither (delayable p b) (inSet able a) (isDone (f a)) (isGone (f a))))
+        ∙ rw (is, waits, shows .waits b, here, had-read p f v shows able a)
+        (ap (λ (t : Bool). inSet able x && not (eqb x b && t)) (one-or-other (delayable p b) (isDone (f a)) (isGone (f a)) (inSet able a)))
 
     pub need-drops : r ≡ Need a b
         → (h : Bool)
-        → h ≡ inSet (bitOr (bitOr able (v .done)) (v .gone)) b
+        → h ≡ inSet (bitOr (bitOr (v .done) (v .gone)) able) b
         → ((y : ℕ) → inSet one y ≡ ((eqb y a && (ltb a 16 && not h)) || inSet 0 y))
         → ((y : ℕ) → inSet after y ≡ (inSet able y && not (inSet one y)))
         → (x : ℕ)
@@ -81,8 +63,8 @@ module _ (p : Plan) (f : Fates) (v : View) (shows : Shows p f v) (able : ℕ) wh
     unfolding lacking
     need-drops is h here is-one is-after x =
         drop-one able one after a (not h) is-one is-after x
-        ∙ rw (is, here, here-read b)
-        (ap (λ (t : Bool). inSet able x && not (eqb x a && t)) (neither (inSet able b) (isDone (f b)) (isGone (f b))))
+        ∙ rw (is, here, had-read p f v shows able b)
+        (ap (λ (t : Bool). inSet able x && not (eqb x a && t)) (one-or-other true (isDone (f b)) (isGone (f b)) (inSet able b)))
 
   pub conditional-drops : (r : Rule) (a b c : ℕ)
       → r ≡ Conditional a b c

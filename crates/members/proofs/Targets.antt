@@ -14,11 +14,18 @@ use Rattle.members.specs.Sets.{inSet, Shows}
 use Rattle.members.specs.Growing.{lacks, Added}
 use Rattle.members.proofs.Bits.{in-or, in-below}
 
-one-or-other : (a b c d : Bool) → (a && not ((b || c) || d)) ≡ ((a && not (b || c)) && not d)
+pub one-or-other : (a b c d : Bool) → (a && not ((b || c) || d)) ≡ ((a && not (b || c)) && not d)
 one-or-other true true c d = refl
 one-or-other true false true d = refl
 one-or-other true false false d = refl
 one-or-other false b c d = refl
+
+-- an event that is settled or in a set, by the sets of a view
+pub had-read : (p : Plan) (f : Fates) (v : View)
+    → Shows p f v
+    → (m t : ℕ)
+    → inSet (bitOr (bitOr (v .done) (v .gone)) m) t ≡ ((isDone (f t) || isGone (f t)) || inSet m t)
+had-read p f v shows m t = rw (in-or (bitOr (v .done) (v .gone)) m t, in-or (v .done) (v .gone) t, shows .done t, shows .gone t)
 
 -- the rule asks for nothing
 pub added-unasked : (p : Plan) (f : Fates) (able : ℕ) (m : Members) (r : Rule)
@@ -45,7 +52,7 @@ module _
     lacks-read : (q && not y) ≡ lacks p f (inSet (m .set)) r
     unfolding lacks
     lacks-read =
-        rw (asked, had, in-or (bitOr (v .done) (v .gone)) (m .set) t, in-or (v .done) (v .gone) t, shows .done t, shows .gone t, at)
+        rw (asked, had, had-read p f v shows (m .set) t, at)
         (one-or-other (asks p f (inSet (m .set)) r) (isDone (f (target r))) (isGone (f (target r))) (inSet (m .set) (target r)))
 
     pub added-none : (q && not y) ≡ false → Added p f (inSet able) m r m

@@ -38,7 +38,7 @@ pub fn spare(rules: [RuleLine; 16], broken: [bool; 16], count: u8, view: View) -
 fn drop_lacking(able: u16, rule: Rule, view: View) -> u16
     ensures { λ r. ⌜ ((p : Plan) (f : Fates) → Shows p f view → (x : ℕ) → inSet r x ≡ (inSet able x && not (lacking p f (inSet able) rule x))) ⌝ }
 {
-    let here = able | view.done | view.gone;
+    let here = view.done | view.gone | able;
     match rule {
         Rule::Order(a, b) => without(able, with_if(0, b, is_in(view.waits, b) & !is_in(here, a))),
         Rule::Need(a, b) => without(able, with_if(0, a, !is_in(here, b))),

@@ -11,7 +11,7 @@ use Rattle.scheduler.specs.Prelude.{[], Unknown, leb, Incoherent, Incohe
 use Rattle.plan.specs.Plans.{eventCount, ruleCount, stepOf, rejectable, delayable}
 use Rattle.scheduler.specs.State.{fateOf, hold, settleAs, shut, Sized}
 use Rattle.plan.specs.Fates.{isOpen}
-use Rattle.scheduler.specs.Orders.{First, chosen, doAll}
+use Rattle.scheduler.specs.Orders.{chosen, doAll}
 use Rattle.scheduler.specs.Rules.{strains}
 use Rattle.scheduler.specs.Calls.{refuses, does, Turns, stay, turn, settleOnce, settle, breakIf, recordBroken, doAlone, decide, submit, lapse, closeStep, refuseHeld, finish}
 use Rattle.scheduler.specs.Answers.{callRows, callFault, accept, call}
@@ -20,7 +20,7 @@ use Rattle.plan.proofs.Tests.{and-left, and-right, either}
 use Rattle.plan.proofs.Fates.{open-is}
 use Rattle.scheduler.proofs.Laws.{plan-hold, fate-hold-same, sized-hold, sized-shut, sized-break, sized-settle}
 use Rattle.scheduler.proofs.Branches.{decide-order, decide-refuse, decide-alone, submit-same, submit-delayed, submit-decided, lapse-yes, lapse-no, lowestHeld, refuse-none, refuse-some, call-fault, call-accept}
-use Rattle.scheduler.proofs.Searching.{sized-doAll, run-declared, chosen-none, chosen-first}
+use Rattle.scheduler.proofs.Searching.{sized-doAll, chosen-none, chosen-first}
 use Rattle.scheduler.proofs.Settling.{held-tested, lowest-some, once-none, settle-turns, settle-rest, sized-settling}
 use Rattle.scheduler.specs.Coherent.{coherent}
 use Rattle.scheduler.specs.Lists.{scheduler}

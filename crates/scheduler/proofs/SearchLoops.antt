@@ -127,6 +127,16 @@ module _ (s : State) (left at places : ℕ) where
     pub hit : r .ok ≡ true
         → _≡_ {A = Found} (record { ok = r .ok; events = set (r .events) at x; len = r .len }) (foundFrom at steps)
 
+  -- a search that takes x, with the events after it left: the order ends with it, or goes on
+  pub record Took (x after : ℕ) : Type 0 where
+    pub last : (y : ℕ)
+        → y ≡ orSixteen (lowest 16 (inSet after))
+        → y ≡ 16
+        → _≡_ {A = Found} (record { ok = true; events = set (replicate 6 0) at x; len = at + 1 }) (foundFrom at steps)
+    pub on : (r : Found)
+        → r ≡ foundFrom (at + 1) (stepwise ((doOne s x) .plan) (stands (doOne s x)) (places - 1) (fateOf (doOne s x)) (inSet after))
+        → Onward x r
+
   -- nothing is left: the order ends here
   pub search-end : (x : ℕ)
       → x ≡ orSixteen (lowest 16 (inSet left))
@@ -167,7 +177,9 @@ module _ (s : State) (left at places : ℕ) where
           go zero q = absurd (some-place q)
           go (suc k) q = rw q (step-stuck (s .plan) (stands s) k (fateOf s) (inSet left) more (next-same ∙ lowest-past (inSet d) x same n))
 
-      module _ (z : Sized s) (lt : x < 16) (one after : ℕ) (is-one : (y : ℕ) → inSet one y ≡ ((eqb y x && (ltb x 16 && true)) || inSet 0 y)) (is-after : (y : ℕ) → inSet after y ≡ (inSet left y && not (inSet one y))) where
+      module _ (z : Sized s) (lt : x < 16) (one after : ℕ)
+          (is-one : (y : ℕ) → inSet one y ≡ ((eqb y x && (ltb x 16 && true)) || inSet 0 y))
+          (is-after : (y : ℕ) → inSet after y ≡ (inSet left y && not (inSet one y))) where
         abbrev later : Option (List ℕ)
         later = stepwise (s .plan) (stands s) (places - 1) (doing (fateOf s) x) (less (inSet left) x)
 
@@ -184,7 +196,7 @@ module _ (s : State) (left at places : ℕ) where
             go (suc k) q = rw (q, sub-one) (step-takes (s .plan) (stands s) k (fateOf s) (inSet left) x more (next-same ∙ lowest-below (inSet d) x same lt))
 
         -- it is the last: the order ends with it
-        pub search-last : (y : ℕ)
+        search-last : (y : ℕ)
             → y ≡ orSixteen (lowest 16 (inSet after))
             → y ≡ 16
             → _≡_ {A = Found} (record { ok = true; events = set (replicate 6 0) at x; len = at + 1 }) (foundFrom at steps)
@@ -213,8 +225,11 @@ module _ (s : State) (left at places : ℕ) where
           search-hit t = let f = found-some (at + 1) later r found-later t in hit-with (f .0) (f .1)
 
           -- the answer, by what that search answers
-          pub search-on : Onward x r
+          search-on : Onward x r
           search-on = record { miss = search-miss; hit = search-hit }
+
+        pub search-took : Took x after
+        search-took = record { last = search-last; on = search-on }
 
 -- the search among the members
 module _ (s : State) (z : Sized s) (e able : ℕ) (k : Hopeful s (inSet able)) (m : Members) (closes : Closes (s .plan) (stands s) (fateOf s) (inSet able) e m) where

@@ -186,14 +186,17 @@ module _ (candidate : ℕ → Bool) where
   order-some zero s e had o h =
       let w = when-some (had && not (owing s)) (some []) o h in
       let q : [] ≡ o = cc in
-      subst (λ l. Reaches zero s e had l × Passes l) q (record { long = refl; runs = not-true (owing s) (and-right had (not (owing s)) (w .0)); has-e = and-left had (not (owing s)) (w .0) }, λ c m. absurd (List·Memᴰ·not-nil m))
+      let ends : Reaches zero s e had [] = record { long = refl; runs = not-true (owing s) (and-right had (not (owing s)) (w .0)); has-e = and-left had (not (owing s)) (w .0) } in
+      subst (λ l. Reaches zero s e had l × Passes l) q (ends, λ c m. absurd (List·Memᴰ·not-nil m))
   order-some (suc k) s e had o h =
       let f = first-some (eventCount (s .plan)) 0 _ o h in
       let c = f .place in
       let w = when-some (candidate c && mayDo s c) _ o (f .gives) in
       let m = map-some c (orderOf candidate k (doOne s c) e (had || eqb c e)) o (w .1) in
       let r = order-some k (doOne s c) e (had || eqb c e) (m .0) (m .1) in
-      subst (λ l. Reaches (suc k) s e had l × Passes l) (sym (m .2)) (record { long = ap suc (r .0 .long); runs = (omega (arith, f .upto), and-right (candidate c) (mayDo s c) (w .0), r .0 .runs); has-e = r .0 .has-e }, λ x i. elim (List·Memᴰ·cases-cons i) [ inl q ↦ rw q (and-left (candidate c) (mayDo s c) (w .0)) | inr i′ ↦ r .1 x i′ ])
+      let reached : Reaches (suc k) s e had (c ∷ m .0) = record { long = ap suc (r .0 .long); runs = (omega (arith, f .upto), and-right (candidate c) (mayDo s c) (w .0), r .0 .runs); has-e = r .0 .has-e } in
+      let passed : Passes (c ∷ m .0) = λ x i. elim (List·Memᴰ·cases-cons i) [ inl q ↦ rw q (and-left (candidate c) (mayDo s c) (w .0)) | inr i′ ↦ r .1 x i′ ] in
+      subst (λ l. Reaches (suc k) s e had l × Passes l) (sym (m .2)) (reached, passed)
 
   -- no such run is ahead of the one found
   pub order-ahead : (k : ℕ) (s : State) (e : ℕ) (had : Bool) (o : List ℕ)
@@ -217,7 +220,9 @@ module _ (candidate : ℕ → Bool) where
         | yes lt ↦ inl lt
         | no ge ↦ elim (ℕ-discrete c x) [
           | yes z ↦ inr (z, order-ahead k (doOne s c) e (had || eqb c e) (m .0) (m .1) q (rw z tail) passes)
-          | no ne ↦ absurd {A = Ahead (c ∷ m .0) (x ∷ q)} (order-none k (doOne s x) e (had || eqb x e) (map-none x _ (when-none (candidate x && mayDo s x) _ (f .before x (omega arith) (omega arith)) (and-both (candidate x) (mayDo s x) (p x (List·Memᴰ·head refl)) (r .runs .1)))) q tail passes)
+          | no ne ↦
+              let missing = when-none (candidate x && mayDo s x) _ (f .before x (omega arith) (omega arith)) (and-both (candidate x) (mayDo s x) (p x (List·Memᴰ·head refl)) (r .runs .1)) in
+              absurd {A = Ahead (c ∷ m .0) (x ∷ q)} (order-none k (doOne s x) e (had || eqb x e) (map-none x _ missing) q tail passes)
         ]
       ])
 

@@ -4,7 +4,7 @@ use native.Mathlib.Numerals.{add-one, sub-one}
 use native.Mathlib.Omega.{arith}
 use native.Mathlib.Decide.{decLt}
 use borrow.Author.Tests.{lt-ltb, le-ltb}
-use mathlib.Core.Bool.{Bool, true, false, _&&_, _||_, and-false, or-false, and-assoc}
+use mathlib.Core.Bool.{Bool, true, false, _&&_, and-false, or-false, and-assoc}
 use mathlib.Core.List.{List, [], _∷_}
 use mathlib.Core.Logic.{inl, inr}
 use mathlib.Core.Option.{Option, none, some, Option·map}
@@ -14,8 +14,8 @@ use lib.ListN.{length, getD, take, drop, drop-of-length-le}
 use lib.Seq.{drop-cons, length-take-le, take-all}
 use Rattle.scheduler.specs.declared.order.Found.{Found}
 use Rattle.scheduler.specs.declared.settle.Turned.{Turned}
-use Rattle.scheduler.specs.Prelude.{Fate, Refused, Rule, Order, Need, Conditional, State}
-use Rattle.plan.specs.Base.{anyBelow, firstOf, when, lowest}
+use Rattle.scheduler.specs.Prelude.{Refused, Rule, Order, Need, Conditional, State}
+use Rattle.plan.specs.Base.{anyBelow, when, lowest}
 use Rattle.plan.specs.Plans.{eventCount, ruleCount, ruleAt}
 use Rattle.plan.specs.Rules.{bars, ready}
 use Rattle.orders.specs.Stepwise.{follows, blocked}

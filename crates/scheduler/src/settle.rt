@@ -18,6 +18,9 @@ ghost use Rattle.scheduler.specs.Orders.{foundOrder};
 ghost use Rattle.scheduler.specs.Calls.{toRefuse, toDo, settle};
 ghost use Rattle.scheduler.specs.Internal.Hopeful.{Hopeful};
 
+// The set of all sixteen events.
+const EVERY_EVENT: u16 = 65535;
+
 // Whether there was a turn to make, and the state after it.
 pub(crate) struct Turned {
     pub moved: bool,
@@ -80,7 +83,7 @@ impl State {
     {
         let plan = self.plan;
         let one = with_if(0, lowest_of(view.held), true);
-        let missing = without(65535, view.able | view.done | view.gone);
+        let missing = without(EVERY_EVENT, view.able | view.done | view.gone);
         if (one == view.held) | (plan.event_count <= lowest_of(missing)) {
             return view.able;
         }

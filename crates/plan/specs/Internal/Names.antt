@@ -1,5 +1,5 @@
 -- The events that a rule names, by their place in it; of two the second is also the last.
-use Rattle.plan.specs.Prelude.{ℕ, Rule, Order, Need, Conditional}
+use Rattle.plan.specs.Prelude.{Rule, Order, Need, Conditional}
 use Rattle.plan.specs.declared.rule.Names.{Names}
 
 abbrev pub namesOf : Rule → Names

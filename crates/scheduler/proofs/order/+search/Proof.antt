@@ -11,7 +11,7 @@ use Rattle.members.proofs.set.without.Reads as without-reads
 use Rattle.members.proofs.view.view_after.Reads as view-after-reads
 use Rattle.scheduler.specs.State.{fateOf}
 use Rattle.scheduler.proofs.Sizes.{sized}
-use Rattle.scheduler.proofs.SearchLoops.{search-end, search-more, search-full, search-stuck, search-last, Onward, search-on, shows-one}
+use Rattle.scheduler.proofs.SearchLoops.{search-end, search-more, search-full, search-stuck, Onward, Took, search-took, shows-one}
 use Rattle.scheduler.proofs.order.search.Reads as search′
 use Rattle.scheduler.proofs.order.search.Kinds as search-kinds
 use Rattle.scheduler.proofs.order.+search.Lts-search as search-lts
@@ -119,16 +119,15 @@ module _ (t : ℕ) where
   search-element-write-q : search-lts.Need-element-write-q (claims t) (search-at t) search′.Post
   search-element-write-q c = omega (arith, at-low (c .before .before .before .before .before .before))
 
-  search-returns-3 : search-lts.Need-returns-3 (claims t) (search-at t) search′.Post
-  search-returns-3 c =
-      let taken = c .before .before in
-      let next = taken .before .before .before in
+  took : (c : Taken) → (let st = begun c .args in Took (st .s) (st .left) (st .at) (st .places) (event c) (c .without2 .result))
+  took c =
+      let next = c .before .before .before in
       let blocked = next .before .before in
-      let more = placed-here taken in
+      let more = placed-here c in
       let first = more .before .before in
-      let st = begun taken in
+      let st = begun c in
       let s = st .args .s in
-      search-last s (st .args .left) (st .args .at) (st .args .places)
+      search-took s (st .args .left) (st .args .at) (st .args .places)
       (blocked .blocked-in .result)
       (next .before .without .result)
       (blocked .blocked-in .ensures (s .plan) (fateOf s) refl refl (st .pre .1 .1))
@@ -138,43 +137,21 @@ module _ (t : ℕ) where
       (next .lowest-of2 .result)
       (next .lowest-of2 .ensures)
       (sized s (st .good .0))
-      (taken .before .before .if3 .taken)
-      (taken .before .with-if .result)
-      (taken .without2 .result)
-      (taken .before .with-if .ensures)
-      (taken .without2 .ensures)
-      (c .before .lowest-of3 .result)
-      (c .before .lowest-of3 .ensures)
-      (c .if4 .taken)
+      (c .before .before .if3 .taken)
+      (c .before .with-if .result)
+      (c .without2 .result)
+      (c .before .with-if .ensures)
+      (c .without2 .ensures)
+
+  search-returns-3 : search-lts.Need-returns-3 (claims t) (search-at t) search′.Post
+  search-returns-3 c = took (c .before .before) .last (c .before .lowest-of3 .result) (c .before .lowest-of3 .ensures) (c .if4 .taken)
 
   onward : (c : search-lts.After-search (claims t) (search-at t) search′.Post)
-      → (let st = begun (c .before .before .before .before .before) .args in
-      Onward (st .s) (st .left) (st .at) (st .places) (event (c .before .before .before .before .before)) (c .search .result))
+      → (let taken = c .before .before .before .before .before in
+      let st = begun taken .args in
+      Onward (st .s) (st .left) (st .at) (st .places) (event taken) (c .search .result))
   onward c =
-      let taken = c .before .before .before .before .before in
-      let next = taken .before .before .before in
-      let blocked = next .before .before in
-      let more = placed-here taken in
-      let first = more .before .before in
-      let st = begun taken in
-      let s = st .args .s in
-      search-on s (st .args .left) (st .args .at) (st .args .places)
-      (blocked .blocked-in .result)
-      (next .before .without .result)
-      (blocked .blocked-in .ensures (s .plan) (fateOf s) refl refl (st .pre .1 .1))
-      (next .before .without .ensures)
-      (search-more s (st .args .left) (st .args .at) (st .args .places) (first .lowest-of .result) (first .lowest-of .ensures) (more .before .if1 .left))
-      (more .if2 .left)
-      (next .lowest-of2 .result)
-      (next .lowest-of2 .ensures)
-      (sized s (st .good .0))
-      (taken .before .before .if3 .taken)
-      (taken .before .with-if .result)
-      (taken .without2 .result)
-      (taken .before .with-if .ensures)
-      (taken .without2 .ensures)
-      (c .search .result)
-      (rw (c .before .before .do-one .ensures) at (c .search .ensures))
+      took (c .before .before .before .before .before) .on (c .search .result) (rw (c .before .before .do-one .ensures) at (c .search .ensures))
 
   search-returns-4 : search-lts.Need-returns-4 (claims t) (search-at t) search′.Post
   search-returns-4 c = onward (c .before) .hit (c .if5 .taken)

@@ -39,23 +39,32 @@ hold-requires c κs = search needs
 is-delayable-requires : tie.Need-is-delayable-requires
 is-delayable-requires c κs = search needs
 
+-- places of the code: where the event is known to be open, and where the function begins
+abbrev join : tie.After-is-delayable → tie.Joined1
+join c = c .before .before
+
+abbrev begun : tie.After-is-delayable → tie.Start
+begun c = join c .before .before .before .before
+
+fresh : (c : tie.After-is-delayable) → isOpen (fateOf (begun c .args .self) (begun c .args .event)) ≡ true
+fresh c = elim (join c .if1 .came) [
+  | inl w ↦ sym (fate-in (begun c .args .self) (begun c .args .event) _ (w .0 .taken) (w .2 .ensures)) ∙ not-false _ (w .3 .left)
+  | inr w ↦ sym (fate-blank (begun c .args .self) (begun c .args .event) (w .0 .left))
+]
+
+late : (c : tie.After-is-delayable) → c .is-delayable .result ≡ delayable (begun c .args .self .plan) (begun c .args .event)
+late c = elim (join c .if1 .came) [
+  | inl w ↦ bit-in (begun c .args .self .plan) _ refl 4 (begun c .args .event) _ _ (c .is-delayable .ensures) (w .0 .taken) (w .5)
+  | inr w ↦ bit-past (begun c .args .self .plan) _ refl 4 (begun c .args .event) _ _ (c .is-delayable .ensures) (w .0 .left) (w .1)
+]
+
 settle-requires : tie.Need-settle-requires
 settle-requires c κs = search needs
 
 returns-2 : tie.Need-returns-2
 returns-2 c =
-    let delay = c .before .before .is-delayable in
-    let join = c .before .before .before .before in
-    let a = join .before .before .before .before .args in
-    let fresh : isOpen (fateOf (a .self) (a .event)) ≡ true = elim (join .if1 .came) [
-      | inl w ↦ sym (fate-in (a .self) (a .event) _ (w .0 .taken) (w .2 .ensures)) ∙ not-false _ (w .3 .left)
-      | inr w ↦ sym (fate-blank (a .self) (a .event) (w .0 .left))
-    ] in
-    let late : delay .result ≡ delayable (a .self .plan) (a .event) = elim (join .if1 .came) [
-      | inl w ↦ bit-in (a .self .plan) _ refl 4 (a .event) _ _ (delay .ensures) (w .0 .taken) (w .5)
-      | inr w ↦ bit-past (a .self .plan) _ refl 4 (a .event) _ _ (delay .ensures) (w .0 .left) (w .1)
-    ] in
-    hand-delayed (a .self) (a .event) fresh _ _ _ (c .before .before .before .hold .ensures) late (c .before .if3 .taken) (c .settle .ensures)
+    let told = c .before .before in
+    hand-delayed (begun told .args .self) (begun told .args .event) (fresh told) _ _ _ (told .before .hold .ensures) (late told) (c .before .if3 .taken) (c .settle .ensures)
 
 decide-requires : tie.Need-decide-requires
 decide-requires c κs = search needs
@@ -69,20 +78,10 @@ settle-requires-2 c κs = search needs
 -- the event is decided, and the rest settled
 handed : (c : tie.After-decide) (u : State)
     → u ≡ settle (c .decide .result)
-    → (let a = c .before .before .before .before .before .before .before .before .args in u ≡ submit (a .self) (a .event))
+    → (let a = begun (c .before .before) .args in u ≡ submit (a .self) (a .event))
 handed c u settled =
-    let delay = c .before .before .is-delayable in
-    let join = c .before .before .before .before in
-    let a = join .before .before .before .before .args in
-    let fresh : isOpen (fateOf (a .self) (a .event)) ≡ true = elim (join .if1 .came) [
-      | inl w ↦ sym (fate-in (a .self) (a .event) _ (w .0 .taken) (w .2 .ensures)) ∙ not-false _ (w .3 .left)
-      | inr w ↦ sym (fate-blank (a .self) (a .event) (w .0 .left))
-    ] in
-    let late : delay .result ≡ delayable (a .self .plan) (a .event) = elim (join .if1 .came) [
-      | inl w ↦ bit-in (a .self .plan) _ refl 4 (a .event) _ _ (delay .ensures) (w .0 .taken) (w .5)
-      | inr w ↦ bit-past (a .self .plan) _ refl 4 (a .event) _ _ (delay .ensures) (w .0 .left) (w .1)
-    ] in
-    hand-decided (a .self) (a .event) fresh _ _ _ (c .before .before .before .hold .ensures) late _ (c .before .if3 .left) (c .decide .ensures) settled
+    let told = c .before .before in
+    hand-decided (begun told .args .self) (begun told .args .event) (fresh told) _ _ _ (told .before .hold .ensures) (late told) _ (c .before .if3 .left) (c .decide .ensures) settled
 
 returns-3 : tie.Need-returns-3
 returns-3 c = handed (c .before .before .before) _ (c .settle2 .ensures)
