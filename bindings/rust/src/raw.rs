@@ -59,6 +59,7 @@ extern "C" {
     fn sinewhopa_close_step(state: *mut u8, step: u8) -> u8;
     fn sinewhopa_finish(state: *mut u8) -> u8;
     fn sinewhopa_submit_all(state: *mut u8, entries: *mut Entry, n: usize) -> u8;
+    fn sinewhopa_preview(state: *const u8, event: u8, added: *mut u8) -> u8;
     fn sinewhopa_check(state: *const u8) -> u8;
     fn sinewhopa_report(state: *const u8, refused: usize, out: *mut u8, out_len: usize) -> usize;
     fn sinewhopa_run(
@@ -125,6 +126,16 @@ pub fn submit_all(state: &mut [u8; STATE_LEN], entries: &mut [Entry]) -> u8 {
     // the header's layout; neither is null, and both are borrowed mutably, so that
     // they do not overlap. Any bytes are an entry.
     unsafe { sinewhopa_submit_all(state.as_mut_ptr(), entries.as_mut_ptr(), entries.len()) }
+}
+
+/// Counts what handing the event in would settle: the lines that it would add to the
+/// history, by fate. Gives 0 and writes how many would be done, refused and lapsed, and
+/// a fourth count, which is 0; or gives what [`submit`] would, 9 or 12, and `added` is
+/// left as it was. The state is only read.
+pub fn preview(state: &[u8; STATE_LEN], event: u8, added: &mut [u8; 4]) -> u8 {
+    // SAFETY: `state` has the bytes of a state, which are only read; `added` has its
+    // four bytes and is borrowed mutably, so it does not overlap them.
+    unsafe { sinewhopa_preview(state.as_ptr(), event, added.as_mut_ptr()) }
 }
 
 /// Gives 0 where the bytes are those of a state that hangs together, else 12.
