@@ -96,7 +96,7 @@ grow-same : (s t : State) → lines t ≡ lines s → Grows s t
 grow-same s t e = ([], e ∙ sym (append-nil (lines s)))
 
 -- settling an event adds a line, or none where all places are taken
-lines-full : (x : Fate) (s : State) (e : ℕ) → 16 ≤ lineCount s → lines (settleAs x s e) ≡ lines s
+pub lines-full : (x : Fate) (s : State) (e : ℕ) → 16 ≤ lineCount s → lines (settleAs x s e) ≡ lines s
 unfolding settleAs
 lines-full x s e ge = rw (le-ltb (lineCount s) 16 ge)
 
@@ -114,7 +114,7 @@ order-grows s (c ∷ o) z =
 
 -- recording rules as broken keeps lines and fates
 module _ (s : State) (e : ℕ) (t : State) where
-  recorded-lines : (n : ℕ) → lines (recordBroken n s e t) ≡ lines t
+  pub recorded-lines : (n : ℕ) → lines (recordBroken n s e t) ≡ lines t
   unfolding recordBroken
   recorded-lines zero = refl
   recorded-lines (suc n) = go (strains s e n) (recorded-lines n)

@@ -1,6 +1,7 @@
 // The static library: what include/sinewhopa.h declares. Here the run of a whole list; in state.rt single calls on a
-// state that the host keeps, in batches.rt several together.
+// state that the host keeps, in batches.rt several together, in previews.rt what one would settle.
 pub mod batches;
+pub mod previews;
 pub mod state;
 
 ghost use mathlib.Core.Path.{_≡_};

@@ -1,0 +1,45 @@
+-- A preview: the settlements that handing an event in would add to the history, counted by fate.
+use Prim.Native.Nat.{ℕ, _+_}
+use mathlib.Core.Bool.{false}
+use mathlib.Core.List.{List, [], _∷_, _++_}
+use mathlib.Core.Path.{_≡_}
+use lib.ListN.{drop}
+use Rattle.preview.specs.Types.{Fate, Done, Refused, Lapsed, Entry, Call, Submit, Is, Made, TurnedDown, State, Counts, PreviewReply}
+use Rattle.plan.specs.Base.{oneIf}
+use Rattle.plan.specs.Fates.{isOpen, sameFate}
+use Rattle.scheduler.specs.State.{fateOf, lineCount, lines}
+use Rattle.scheduler.specs.Answers.{call}
+
+-- the lines that a call adds to the history: those after the ones that it had (9.15)
+abbrev pub addedBy : State → Call → List Entry
+addedBy s c = drop (lineCount s) (lines (call s c .state))
+
+-- how many lines say this fate (9.15)
+unfoldable pub countOf : Fate → List Entry → ℕ
+countOf x [] = 0
+countOf x (l ∷ ls) = oneIf (sameFate (l .fate) x) + countOf x ls
+
+-- lines counted by what they say (9.15)
+abbrev pub countsIn : List Entry → Counts
+countsIn ls = record { done = countOf Done ls; refused = countOf Refused ls; lapsed = countOf Lapsed ls }
+
+-- all of them together (9.15)
+abbrev pub total : Counts → ℕ
+total c = c .done + c .refused + c .lapsed
+
+-- what a preview gives: why the hand-in would be turned down, or the counts of what it would add (9.15, 10.8)
+unfoldable pub previewOf : State → ℕ → PreviewReply
+previewOf s e = elim (call s (Submit e) .answer) [
+  | TurnedDown f ↦ PreviewReply.TurnedDown f
+  | Is x ↦ PreviewReply.Counted (countsIn (addedBy s (Submit e)))
+  | Made ↦ PreviewReply.Counted (countsIn (addedBy s (Submit e)))
+]
+
+-- what holds of a preview and the hand-in that it is of: the history after that one is the history before it with the lines
+-- counted, so that the counts' sum is how many lines it grows by; none of them says lapsed; and the hand-in of an event
+-- that isn't open adds none (11.15)
+pub record Foretold (s : State) (e : ℕ) : Type 0 where
+  pub history : lines (call s (Submit e) .state) ≡ lines s ++ addedBy s (Submit e)
+  pub growth : lineCount (call s (Submit e) .state) ≡ lineCount s + total (countsIn (addedBy s (Submit e)))
+  pub unlapsed : countOf Lapsed (addedBy s (Submit e)) ≡ 0
+  pub idle : isOpen (fateOf s e) ≡ false → addedBy s (Submit e) ≡ []

@@ -1,0 +1,15 @@
+-- The types that `plan`, `scheduler` and this crate declare, under one name each.
+pub use Rattle.plan.specs.declared.fate.Fate.{Fate}
+pub use Rattle.plan.specs.declared.fate.Fate.the-variants.{Open, Held, Done, Refused, Lapsed}
+pub use Rattle.plan.specs.declared.plan.Plan.{Plan}
+pub use Rattle.plan.specs.declared.history.Entry.{Entry}
+pub use Rattle.plan.specs.declared.calls.Call.{Call}
+pub use Rattle.plan.specs.declared.calls.Call.the-variants.{Submit, Close, Finish}
+pub use Rattle.plan.specs.declared.answer.CallFault.{CallFault}
+pub use Rattle.plan.specs.declared.answer.CallFault.the-variants.{Unknown, AlreadyClosed, NotClosed, Incoherent, TooLong}
+pub use Rattle.plan.specs.declared.answer.Answer.{Answer}
+pub use Rattle.plan.specs.declared.answer.Answer.the-variants.{Is, Made, TurnedDown}
+pub use Rattle.scheduler.specs.declared.state.State.{State}
+pub use Rattle.scheduler.specs.declared.reply.Reply.{Reply}
+pub use Rattle.preview.specs.declared.preview.Counts.{Counts}
+pub use Rattle.preview.specs.declared.preview.PreviewReply.{PreviewReply}
