@@ -5,12 +5,13 @@
 //! state, and `sound` says which bytes are a state that hangs together (10.4 of
 //! the specification); both are written from the header and the specification
 //! alone. `single` compares after every call, `damaged` changes bytes, `brought` has
-//! states that no list may lead to, and `batches` compares after every batch, on
-//! states of all these sorts.
+//! states that no list may lead to, `runs` goes on with states of all these sorts, and
+//! `batches` compares after every batch on them.
 
 pub mod batches;
 pub mod brought;
 pub mod damaged;
 pub mod layout;
+pub mod runs;
 pub mod single;
 pub mod sound;
