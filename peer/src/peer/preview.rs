@@ -2,15 +2,15 @@
 
 use super::scheduler::{Fate, Line, Reason, Scheduler};
 
-/// How many events a hand-in would settle, by fate.
+/// How many settlements a hand-in would add, by fate.
 #[derive(Clone, Copy, Debug, Default, PartialEq, Eq)]
-pub struct Preview {
+pub struct Settlements {
     pub done: u8,
     pub refused: u8,
     pub lapsed: u8,
 }
 
-impl Preview {
+impl Settlements {
     /// The four counts that a library gives. The last has no fate yet.
     pub fn bytes(self) -> [u8; 4] {
         [self.done, self.refused, self.lapsed, 0]
@@ -27,12 +27,12 @@ impl Preview {
 }
 
 /// Hands the event in on a copy and counts the lines that this adds to the history.
-pub fn preview(scheduler: &Scheduler, event: u8) -> Result<Preview, Reason> {
+pub fn preview(scheduler: &Scheduler, event: u8) -> Result<Settlements, Reason> {
     let mut copy = scheduler.clone();
     copy.submit(event)?;
-    let mut found = Preview::default();
+    let mut added = Settlements::default();
     for line in &copy.history()[scheduler.history().len()..] {
-        found.add(line);
+        added.add(line);
     }
-    Ok(found)
+    Ok(added)
 }
