@@ -10,7 +10,7 @@ mod met;
 mod outcome;
 
 pub use met::Tally;
-pub use outcome::{agree, Counts, Outcome, Preview, LIBRARY};
+pub use outcome::{agree, of_peer, Counts, Outcome, Preview, LIBRARY};
 
 use super::layout::{Image, BEYOND, EVENTS, FATE};
 use super::runs::Run;

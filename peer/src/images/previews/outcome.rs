@@ -86,7 +86,7 @@ impl fmt::Display for Outcome {
 
 /// The peer's answer, with the counts as a library has them. Bytes that the peer has no
 /// state of are none.
-fn of_peer(peer: Option<&Scheduler>, event: u8) -> Result<Counts, u8> {
+pub fn of_peer(peer: Option<&Scheduler>, event: u8) -> Result<Counts, u8> {
     match preview(peer.ok_or(INCOHERENT)?, event) {
         Ok(added) => Ok(added.bytes()),
         Err(reason) => Err(reason as u8),
