@@ -10,6 +10,12 @@ pub struct Case {
     pub report: &'static str,
 }
 
+/// The sheet of the case of that name.
+pub fn sheet_of(case: &str) -> &'static [u8] {
+    let found = CASES.iter().find(|one| one.name == case);
+    found.expect("a case of that name").sheet
+}
+
 pub const CASES: &[Case] = &[
     Case {
         name: "A",

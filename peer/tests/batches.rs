@@ -1,7 +1,7 @@
 //! Batches on states that a host keeps, against the peer and against single calls.
 //! `COMPARE_SEED` in the environment gives another seed.
 
-use peer::cases::CASES;
+use peer::cases::sheet_of;
 use peer::compare::SEED;
 use peer::images::batches::{agree, compare, Batch, COUNT};
 use peer::images::brought::scheduler;
@@ -54,11 +54,6 @@ fn the_comparison_of_batches_can_fail() {
     }
     let few = compare(SEED, 200, raw::submit_all).expect("no difference");
     assert!(few.missing(LEAST).is_some());
-}
-
-fn sheet_of(case: &str) -> &'static [u8] {
-    let found = CASES.iter().find(|one| one.name == case);
-    found.expect("a case of that name").sheet
 }
 
 /// Makes the batch in both and asks for the number and for the answers, which are worked

@@ -9,6 +9,7 @@ use peer::bench::timing::{measure, Work};
 use peer::bench::workloads::{self, Workload};
 use peer::images::batches::{agree, Batch};
 use peer::images::brought::scheduler;
+use peer::images::previews::Counts;
 use peer::library::raw::{self, Entry};
 use peer::library::State;
 use peer::peer::calls::Call;
@@ -134,10 +135,12 @@ fn single_calls_are_made_on_full_states() {
     }
 }
 
-/// A state that answers calls of a kind without doing anything.
+/// A state that answers calls of a kind without doing anything, or previews without
+/// counting anything.
 #[derive(Clone)]
 struct Ignores<const KIND: u8>(Scheduler);
 
+const PREVIEWS: u8 = 0;
 const CLOSINGS: u8 = 17;
 const WINDINGS_UP: u8 = 18;
 
@@ -158,6 +161,11 @@ impl<const KIND: u8> Kept for Ignores<KIND> {
             self.0 = state;
         }
         number
+    }
+
+    fn preview(&self, event: u8) -> Result<Counts, u8> {
+        let added = self.0.preview(event)?;
+        Ok(if KIND == PREVIEWS { [0; 4] } else { added })
     }
 
     fn report(&self) -> Vec<u8> {
@@ -190,6 +198,20 @@ fn library_agrees_on_every_single_call() {
         let copied = single.name.ends_with("(on a copy)");
         assert_eq!(single.is_idle::<State>(), !copied, "{}", single.name);
     }
+}
+
+/// The hand-in that is previewed settles all sixteen events. A state that counts nothing
+/// is found out.
+#[test]
+fn library_agrees_on_the_preview() {
+    let waited_for = "fifteen wait for";
+    let mut list = single::list().into_iter();
+    let hand_in = list.find(|single| single.name.contains(waited_for));
+    let state: Scheduler = hand_in.expect("a call of that name").state();
+    assert_eq!(state.preview(15), Ok([16, 0, 0, 0]));
+    let right = single::previews::<State>();
+    assert!(right.is_ok_and(|work| work.name.contains(waited_for)));
+    assert!(single::previews::<Ignores<PREVIEWS>>().is_err());
 }
 
 /// Those of random sheets and the long one. A state that ignores closings is found

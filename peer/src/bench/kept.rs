@@ -1,6 +1,7 @@
 //! States that their owner keeps between calls: the library's and the peer's.
 
-use crate::library::State;
+use crate::images::previews::{of_peer, Counts};
+use crate::library::{raw, State};
 use crate::peer::calls::{apply, split_call, Answer, Call, Run};
 use crate::peer::report::report;
 use crate::peer::{Scheduler, Sheet};
@@ -10,6 +11,8 @@ pub trait Kept: Clone {
     fn open(sheet: &[u8]) -> Self;
     /// Makes the call. Gives 0, or the number of the reason to turn it down.
     fn call(&mut self, call: Call) -> u8;
+    /// What handing in an event would settle, by fate; or the number that turns it down.
+    fn preview(&self, event: u8) -> Result<Counts, u8>;
     /// The state's report, with no call turned down.
     fn report(&self) -> Vec<u8>;
     /// Whether the two are the same state.
@@ -28,6 +31,14 @@ impl Kept for State {
             Call::Finish => self.finish(),
         };
         answer.map_or_else(|fault| fault.number(), |()| 0)
+    }
+
+    fn preview(&self, event: u8) -> Result<Counts, u8> {
+        let mut added = [0; 4];
+        match raw::preview(self.as_bytes(), event, &mut added) {
+            0 => Ok(added),
+            number => Err(number),
+        }
     }
 
     fn report(&self) -> Vec<u8> {
@@ -49,6 +60,10 @@ impl Kept for Scheduler {
             Answer::TurnedDown(reason) => reason as u8,
             _ => 0,
         }
+    }
+
+    fn preview(&self, event: u8) -> Result<Counts, u8> {
+        of_peer(Some(self), event)
     }
 
     fn report(&self) -> Vec<u8> {

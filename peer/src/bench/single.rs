@@ -1,9 +1,9 @@
-//! Single calls on a state that its owner keeps, where the state is as full as
-//! it can be: 16 events, 16 rules, and a full history or sixteen events held (in
-//! the last, 15 rules and fifteen held).
+//! Single calls and a preview on a state that its owner keeps, where the state is as
+//! full as it can be: 16 events, 16 rules, and a full history or sixteen events held (in
+//! the last call and the preview, 15 rules and fifteen held).
 //!
-//! The library tests number 12 in each call, as any bytes could be given to it; the
-//! peer never does.
+//! The library tests number 12 in each, as any bytes could be given to it; the peer never
+//! does.
 
 use super::bytes::{all_held, all_settled, closings, hand_ins, star, Pair};
 use super::kept::{make_all, Kept};
@@ -15,6 +15,8 @@ use std::hint::black_box;
 
 /// The calls of a pass.
 const PASS: usize = 100;
+/// The event that fifteen wait for.
+const WAITED_FOR: u8 = 15;
 
 /// A call and the state to make it on, as a sheet and the calls before.
 pub struct Single {
@@ -54,7 +56,6 @@ fn on_settled() -> [Single; 5] {
 /// Where sixteen events are held, or fifteen for want of the last.
 fn on_held() -> [Single; 5] {
     let (held, closed) = (all_held(), closed(all_held()));
-    let waiting = (star(), hand_ins(15));
     [
         single("a winding up, steps not closed yet", &held, Call::Finish),
         single("a hand-in of a held event", &held, Call::Submit(5)),
@@ -70,8 +71,8 @@ fn on_held() -> [Single; 5] {
         ),
         single(
             "a hand-in that fifteen wait for (on a copy)",
-            &waiting,
-            Call::Submit(15),
+            &waiting(),
+            Call::Submit(WAITED_FOR),
         ),
     ]
 }
@@ -79,6 +80,11 @@ fn on_held() -> [Single; 5] {
 fn single(name: &'static str, before: &Pair, call: Call) -> Single {
     let before = before.clone();
     Single { name, before, call }
+}
+
+/// Fifteen held, for want of one that is open.
+fn waiting() -> Pair {
+    (star(), hand_ins(WAITED_FOR))
 }
 
 /// The state with every step closed.
@@ -149,6 +155,36 @@ fn call_copies(state: &impl Kept, call: Call) {
         let mut copy = black_box(state).clone();
         black_box(copy.call(black_box(call)));
         black_box(&copy);
+    }
+}
+
+/// Previews of the hand-in that fifteen wait for. The state stays as it is; the peer
+/// copies it, which is part of the time. The library has to count as the peer does.
+pub fn previews<Library: Kept + 'static>() -> Result<Work<'static>, String> {
+    let hand_in = Call::Submit(WAITED_FOR);
+    let single = single(
+        "a preview of a hand-in that fifteen wait for",
+        &waiting(),
+        hand_in,
+    );
+    let (library, peer) = (single.state::<Library>(), single.state::<Scheduler>());
+    if library.preview(WAITED_FOR) != peer.preview(WAITED_FOR) {
+        return Err(format!("{} differs", single.name));
+    }
+    Ok(Work {
+        name: single.name,
+        calls: PASS,
+        passes: [
+            Box::new(move || preview(&library, WAITED_FOR)),
+            Box::new(move || preview(&peer, WAITED_FOR)),
+        ],
+    })
+}
+
+fn preview(state: &impl Kept, event: u8) {
+    for _ in 0..PASS {
+        let added = black_box(state).preview(black_box(event));
+        black_box(&added);
     }
 }
 

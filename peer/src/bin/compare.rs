@@ -1,9 +1,9 @@
 //! `compare SEED COUNT`: the library against the peer on random pairs, as lists and
 //! as single calls on a kept state; then damaged copies of as many states; then as many
-//! batches.
+//! batches, and as many previews.
 
 use peer::compare::{compare, COUNT, SEED};
-use peer::images::{batches, damaged, single};
+use peer::images::{batches, damaged, previews, single};
 use peer::library::{self, raw, State};
 use std::process::ExitCode;
 
@@ -17,6 +17,8 @@ fn run(seed: u64, count: usize) -> Result<(), String> {
     println!("damaged states: {damage:#?}");
     let batches = batches::compare(seed, count, raw::submit_all)?;
     println!("batches: {batches:#?}");
+    let previews = previews::compare(seed, count, previews::LIBRARY)?;
+    println!("previews: {previews:#?}");
     println!("{count} pairs, 0 differences");
     Ok(())
 }

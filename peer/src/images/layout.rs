@@ -23,6 +23,9 @@ pub const LINE_EVENT: usize = 140;
 pub const LINE_FATE: usize = 156;
 pub const SPARE: usize = 172;
 
+/// The least event that no state declares.
+pub const BEYOND: u8 = 16;
+
 /// The attributes of the four events of a record of kind 6.
 const FOUR: [u8; 4] = [7, 0, 6, 1];
 const ORDER: u8 = 2;

@@ -1,7 +1,7 @@
 //! Single calls, compared after every one: the answer, all bytes of the state,
 //! and what its readers show.
 
-use super::layout::{self, number, Image};
+use super::layout::{self, number, Image, BEYOND};
 use crate::compare::{hex, missing, numbered};
 use crate::library::{raw, Fate, State};
 use crate::peer::calls::{apply, Call};
@@ -13,8 +13,6 @@ use std::fmt::Debug;
 
 /// The pairs of the test.
 pub const COUNT: usize = 25_000;
-/// The least event that no sheet declares.
-const BEYOND: u8 = 16;
 
 /// A state that a host keeps, as the comparison drives it.
 pub trait Host: Sized {

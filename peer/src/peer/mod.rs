@@ -7,6 +7,7 @@
 
 pub mod batch;
 pub mod calls;
+pub mod preview;
 pub mod report;
 pub mod rules;
 pub mod scheduler;

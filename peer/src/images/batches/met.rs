@@ -2,6 +2,7 @@
 
 use super::outcome::Outcome;
 use crate::compare::{missing, numbered};
+use crate::images::runs::{Origin, ORIGINS};
 use crate::library::raw::Entry;
 use crate::peer::batch::MOST;
 use crate::peer::{Fate, Scheduler};
@@ -22,14 +23,6 @@ const LENGTHS: [(&str, usize); 9] = [
     ("200 to 999", 999),
     ("1,000 or more", usize::MAX),
 ];
-
-/// Where a state comes from, which is also its place in the count.
-#[derive(Clone, Copy, Debug, PartialEq, Eq)]
-pub enum Origin {
-    List,
-    Brought,
-    Damaged,
-}
 
 #[derive(Clone, Debug, Default, PartialEq, Eq)]
 pub struct Tally {
@@ -151,7 +144,7 @@ impl Tally {
         let mut counts: Vec<(String, usize)> = Vec::new();
         counts.extend(named.map(|(name, met)| (name.to_string(), met)));
         counts.extend(numbered("hand-ins answered with fate", &self.answered, 1));
-        for (name, met) in ["led to", "brought", "damaged"].iter().zip(self.origins) {
+        for (name, met) in ORIGINS.iter().zip(self.origins) {
             counts.push((format!("batches on states that are {name}"), met));
         }
         for ((name, _), met) in LENGTHS.iter().zip(self.lengths) {

@@ -3,6 +3,7 @@
 use crate::compare::hex;
 use crate::images::damaged::INCOHERENT;
 use crate::images::layout::{number, put, Image, FATE};
+use crate::images::runs::listed;
 use crate::library::raw::{self, Entry};
 use crate::peer::batch::{submit_all, Entry as Own};
 use crate::peer::calls::Answer;
@@ -103,13 +104,6 @@ fn put_answer(entry: &mut Entry, answer: Option<Answer>) {
         Some(Answer::TurnedDown(reason)) => (reason as u8, 0),
         Some(Answer::Unreadable) => (OTHER_KIND, 0),
     };
-}
-
-/// The bytes of the entries.
-pub fn listed(entries: &[Entry]) -> String {
-    let bytes = |entry: &Entry| hex(&[entry.kind, entry.number, entry.refused, entry.fate]);
-    let words: Vec<String> = entries.iter().map(bytes).collect();
-    words.join(", ")
 }
 
 /// The library's single calls, in place of a batch that is taken.
