@@ -3,7 +3,8 @@
 //! A host opens a [`State`] for each of its plans, hands in events as they are
 //! reported to it, closes steps and winds up; it may store the state's 384 bytes
 //! after each call and go on from them after a restart. Replies that come together
-//! are handed in together, by [`State::submit_all`]. [`run`] makes a whole list of
+//! are handed in together, by [`State::submit_all`]. What an event would settle can be
+//! asked before it is handed in, by [`State::preview`]. [`run`] makes a whole list of
 //! calls on a sheet in one go. What sheets and calls are, byte by byte, and what
 //! each call does is in the repository's README.
 //!
@@ -31,6 +32,7 @@ mod batch;
 mod fate;
 mod faults;
 mod layout;
+mod preview;
 #[allow(unsafe_code)]
 pub mod raw;
 mod state;
@@ -38,6 +40,7 @@ mod state;
 pub use batch::{Answer, Call};
 pub use fate::Fate;
 pub use faults::{CallFault, SheetFault};
+pub use preview::Preview;
 pub use state::State;
 
 /// The bytes of a state.

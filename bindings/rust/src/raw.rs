@@ -36,6 +36,18 @@ pub const HAND_IN: u8 = 16;
 /// The kind of an entry that closes a step.
 pub const CLOSE_STEP: u8 = 17;
 
+/// Where [`preview`] writes how many lines would be done.
+pub const ADDED_DONE: usize = 0;
+
+/// Where [`preview`] writes how many lines would be refused.
+pub const ADDED_REFUSED: usize = 1;
+
+/// Where [`preview`] writes how many lines would be lapsed.
+pub const ADDED_LAPSED: usize = 2;
+
+/// How many counts [`preview`] writes.
+pub const ADDED_COUNTS: usize = 4;
+
 /// An entry of a batch: a call, and the answer that [`submit_all`] writes beside it.
 #[repr(C)]
 #[derive(Clone, Copy, Debug, Default, PartialEq, Eq, Hash)]
@@ -128,11 +140,28 @@ pub fn submit_all(state: &mut [u8; STATE_LEN], entries: &mut [Entry]) -> u8 {
     unsafe { sinewhopa_submit_all(state.as_mut_ptr(), entries.as_mut_ptr(), entries.len()) }
 }
 
-/// Counts what handing the event in would settle: the lines that it would add to the
-/// history, by fate. Gives 0 and writes how many would be done, refused and lapsed, and
-/// a fourth count, which is 0; or gives what [`submit`] would, 9 or 12, and `added` is
-/// left as it was. The state is only read.
-pub fn preview(state: &[u8; STATE_LEN], event: u8, added: &mut [u8; 4]) -> u8 {
+/// Counts what handing in an event would settle: the lines that [`submit`] would add to
+/// the history, by fate. Gives 0 and writes how many would be done, refused and lapsed
+/// (none, of a hand-in), and a fourth count, which is 0 and kept for a later fate; all are
+/// 0 for an event that is not open any more. Or gives what [`submit`] would, 12 or 9, and
+/// `added` is left as it was. The state is only read.
+///
+/// ```
+/// use sinewhopa::raw::{self, ADDED_COUNTS, ADDED_DONE};
+///
+/// let mut added = [7; ADDED_COUNTS];
+/// let mut state = [0; sinewhopa::STATE_LEN];
+/// assert_eq!((raw::preview(&state, 0, &mut added), added), (12, [7; 4])); // no state yet
+/// raw::open(&mut state, &[1, 0, 6, 1, 1, 6, 2, 0, 1, 5]); // event 0 before event 1
+/// assert_eq!((raw::preview(&state, 2, &mut added), added), (9, [7; 4])); // no such event
+/// assert_eq!((raw::preview(&state, 1, &mut added), added), (0, [0; 4])); // it would be held
+/// raw::submit(&mut state, 1);
+/// assert_eq!(raw::preview(&state, 0, &mut added), 0);
+/// assert_eq!(added, [2, 0, 0, 0]); // 0 would be done, and 1 with it
+/// raw::submit(&mut state, 0);
+/// assert_eq!(state[3], added[ADDED_DONE]); // the history has as many lines
+/// ```
+pub fn preview(state: &[u8; STATE_LEN], event: u8, added: &mut [u8; ADDED_COUNTS]) -> u8 {
     // SAFETY: `state` has the bytes of a state, which are only read; `added` has its
     // four bytes and is borrowed mutably, so it does not overlap them.
     unsafe { sinewhopa_preview(state.as_ptr(), event, added.as_mut_ptr()) }

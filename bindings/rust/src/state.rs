@@ -1,7 +1,8 @@
 //! A state that a host keeps.
 
 use crate::layout::{self, row};
-use crate::{filled, raw, Answer, Call, CallFault, Fate, SheetFault, LONGEST_BATCH, STATE_LEN};
+use crate::{filled, raw, Answer, Call, CallFault, Fate, Preview, SheetFault};
+use crate::{LONGEST_BATCH, STATE_LEN};
 use std::fmt;
 
 /// The state of one plan: what its sheet declares, what has become of each event,
@@ -130,6 +131,33 @@ impl State {
         taken(raw::submit_all(&mut self.bytes, &mut entries))?;
         let answered = calls.iter().zip(entries);
         Ok(answered.map(|(call, entry)| call.answer(entry)).collect())
+    }
+
+    /// What [`State::submit`] would settle with this event: how many lines it would add
+    /// to the history, by fate. The state stays as it is. Nothing would be settled by an
+    /// event that is not open any more. Where `submit` would turn the event down, so
+    /// does this, with the same fault.
+    ///
+    /// ```
+    /// use sinewhopa::{CallFault, Preview, State};
+    ///
+    /// let mut state = State::open(&[1, 0, 6, 1, 1, 6, 2, 0, 1, 5])?; // 0 before 1
+    /// assert_eq!(state.preview(1)?, Preview::default()); // it would be held
+    /// state.submit(1)?;
+    /// let preview = state.preview(0)?;
+    /// assert_eq!(preview, Preview { done: 2, ..Preview::default() }); // 0, and 1 with it
+    ///
+    /// let before = state.history().count();
+    /// state.submit(0)?;
+    /// assert_eq!(state.history().count(), before + usize::from(preview.settled()));
+    /// assert_eq!(state.preview(0)?, Preview::default()); // not open any more
+    /// assert_eq!(state.preview(2), Err(CallFault::Unknown));
+    /// # Ok::<(), Box<dyn std::error::Error>>(())
+    /// ```
+    pub fn preview(&self, event: u8) -> Result<Preview, CallFault> {
+        let mut added = [0; raw::ADDED_COUNTS];
+        taken(raw::preview(&self.bytes, event, &mut added))?;
+        Ok(Preview::from_counts(added))
     }
 
     /// What has become of an event; none where it is not declared.

@@ -28,6 +28,10 @@ fn numbers_are_the_headers() {
         ("BATCH_MOST", LONGEST_BATCH),
         ("HAND_IN", HAND_IN.into()),
         ("CLOSE_STEP", CLOSE_STEP.into()),
+        ("ADDED_DONE", raw::ADDED_DONE),
+        ("ADDED_REFUSED", raw::ADDED_REFUSED),
+        ("ADDED_LAPSED", raw::ADDED_LAPSED),
+        ("ADDED_COUNTS", raw::ADDED_COUNTS),
         ("OPEN", Fate::Open.number().into()),
         ("HELD", Fate::Held.number().into()),
         ("DONE", Fate::Done.number().into()),
@@ -133,4 +137,28 @@ fn readers_read_the_headers_fields() {
     assert_eq!(history, [(1, Fate::Lapsed), (0, Fate::Done)]);
     assert_eq!(state.held().collect::<Vec<u8>>(), [3]);
     assert_eq!(raw::check(state.as_bytes()), 0);
+}
+
+/// A preview has its counts from the header's places.
+#[test]
+fn a_preview_reads_the_headers_counts() {
+    // 0 and 2 come as they come; 1 only if 2, and before 0; 3 after 0.
+    let sheet = [
+        1, 0, 0, 1, 1, 6, 1, 2, 0, 1, 3, 6, // events
+        3, 1, 2, 2, 1, 0, 2, 0, 3, // rules
+        5,
+    ];
+    let mut state = State::open(&sheet).expect("an admitted sheet");
+    assert_eq!(state.submit(1), Ok(Fate::Held));
+    assert_eq!(state.submit(3), Ok(Fate::Held));
+    let mut added = [77; raw::ADDED_COUNTS];
+    assert_eq!(raw::preview(state.as_bytes(), 0, &mut added), 0);
+    let constants = constants();
+    let mut counts = vec![0; constants["ADDED_COUNTS"]];
+    counts[constants["ADDED_DONE"]] = 2; // 0 and 3
+    counts[constants["ADDED_REFUSED"]] = 1; // 1, for which it is too late then
+    assert_eq!(added[..], counts);
+    let preview = state.preview(0).expect("a declared event");
+    assert_eq!((preview.done, preview.refused), (2, 1));
+    assert_eq!((preview.lapsed, preview.forced), (0, 0));
 }
