@@ -29,11 +29,9 @@ total c = c .done + c .refused + c .lapsed
 
 -- what a preview gives: why the hand-in would be turned down, or the counts of what it would add (9.15, 10.8)
 unfoldable pub previewOf : State → ℕ → PreviewReply
-previewOf s e = elim (call s (Submit e) .answer) [
-  | TurnedDown f ↦ PreviewReply.TurnedDown f
-  | Is x ↦ PreviewReply.Counted (countsIn (addedBy s (Submit e)))
-  | Made ↦ PreviewReply.Counted (countsIn (addedBy s (Submit e)))
-]
+previewOf s e =
+    let counted = PreviewReply.Counted (countsIn (addedBy s (Submit e))) in
+    elim (call s (Submit e) .answer) [ TurnedDown f ↦ PreviewReply.TurnedDown f | Is x ↦ counted | Made ↦ counted ]
 
 -- what holds of a preview and the hand-in that it is of: the history after that one is the history before it with the lines
 -- counted, so that the counts' sum is how many lines it grows by; none of them says lapsed; and the hand-in of an event
