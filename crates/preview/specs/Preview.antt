@@ -10,7 +10,7 @@ use Rattle.plan.specs.Fates.{isOpen, sameFate}
 use Rattle.scheduler.specs.State.{fateOf, lineCount, lines}
 use Rattle.scheduler.specs.Answers.{call}
 
--- the lines that a call adds to the history: those after the ones that it had (9.15)
+-- the lines that a call adds to the history: those after as many as it had (9.16)
 abbrev pub addedBy : State → Call → List Entry
 addedBy s c = drop (lineCount s) (lines (call s c .state))
 
@@ -23,7 +23,7 @@ countOf x (l ∷ ls) = oneIf (sameFate (l .fate) x) + countOf x ls
 abbrev pub countsIn : List Entry → Counts
 countsIn ls = record { done = countOf Done ls; refused = countOf Refused ls; lapsed = countOf Lapsed ls }
 
--- all of them together (9.15)
+-- all of them together (11.15)
 abbrev pub total : Counts → ℕ
 total c = c .done + c .refused + c .lapsed
 
