@@ -77,11 +77,11 @@ pub record Counted (t : ℕ → Bool) (n count i : ℕ) : Type 0 where
   pub few : count ≤ i
 
 -- a test as a number
-one-byte : (b : Bool) → boolByte b ≡ oneIf b
+pub one-byte : (b : Bool) → boolByte b ≡ oneIf b
 one-byte true = refl
 one-byte false = refl
 
-byte-le : (b : Bool) → boolByte b ≤ 1
+pub byte-le : (b : Bool) → boolByte b ≤ 1
 byte-le true = omega arith
 byte-le false = omega arith
 

@@ -3,25 +3,18 @@ use Prim.Native.Nat.{ℕ, suc, _+_, _≤_, _<_, min}
 use native.Mathlib.Nat.{zero-add}
 use native.Mathlib.Numerals.{add-one}
 use native.Mathlib.Omega.{arith}
-use mathlib.Core.Bool.{Bool, true, false}
-use mathlib.Core.List.{List, [], _∷_, _++_}
-use mathlib.Core.Path.{_≡_, refl, sym, _∙_, ap}
+use mathlib.Core.Bool.{Bool}
+use mathlib.Core.List.{List, [], _∷_}
+use mathlib.Core.Path.{_≡_, refl, _∙_, ap}
 use lib.ListN.{length, take, drop, getD, length-take, drop-of-length-le}
 use lib.Seq.{drop-cons, getD-take}
 use mir.Val.{boolByte}
-use Rattle.preview.specs.Types.{Fate, Done, Refused, Lapsed, Entry}
+use Rattle.preview.specs.Types.{Fate, Entry}
 use Rattle.plan.specs.Base.{oneIf}
 use Rattle.plan.specs.Fates.{sameFate}
 use Rattle.plan.specs.Histories.{blankEntry}
+use Rattle.plan.proofs.Loops.{one-byte, byte-le}
 use Rattle.preview.specs.Preview.{countOf}
-
-byte-one : (b : Bool) → boolByte b ≡ oneIf b
-byte-one true = refl
-byte-one false = refl
-
-byte-le : (b : Bool) → boolByte b ≤ 1
-byte-le true = omega arith
-byte-le false = omega arith
 
 count-none : (x : Fate) → countOf x [] ≡ 0
 unfolding countOf
@@ -47,7 +40,7 @@ module _ (x : Fate) (h : List Entry) (from to : ℕ) where
           let long : i < length (take to h) = omega (arith, length-take to h) in
           ap (countOf x) (drop-cons (take to h) i blankEntry long)
           ∙ count-first x (getD (take to h) i blankEntry) (drop (suc i) (take to h))
-          ∙ rw (getD-take to h i blankEntry (omega arith), ← here, ← byte-one b, add-one i)
+          ∙ rw (getD-take to h i blankEntry (omega arith), ← here, ← one-byte b, add-one i)
 
       pub count-next : Counting x h from to (count + boolByte b) (i + 1)
       count-next = record { rest = omega (arith, next, before .rest); few = omega (arith, byte-le b, before .few) }

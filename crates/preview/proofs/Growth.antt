@@ -1,13 +1,12 @@
 -- What a hand-in adds to the history: lines that say done or refused, and none where the event isn't open.
-use Prim.Native.Nat.{ℕ, suc, _+_, _≤_}
+use Prim.Native.Nat.{ℕ, _+_, _≤_}
 use native.Mathlib.Omega.{arith}
 use native.Mathlib.Decide.{decLt}
 use mathlib.Core.Bool.{Bool, true, false}
 use mathlib.Core.List.{List, [], _∷_, _++_, append-nil, append-assoc}
-use mathlib.Core.Logic.{inl, inr}
 use mathlib.Core.Option.{Option, none, some}
 use mathlib.Core.Path.{_≡_, refl, sym, _∙_, ap, subst}
-use lib.ListN.{length, take, drop, length-take, length-append, drop-of-length-le}
+use lib.ListN.{length, drop, length-take, length-append, drop-of-length-le}
 use lib.Seq.{length-take-le, drop-at}
 use Rattle.preview.specs.Types.{Fate, Open, Held, Done, Refused, Lapsed, Entry, Call, Submit, Close, Finish, CallFault, State, Reply}
 use Rattle.plan.specs.Base.{oneIf}
@@ -27,7 +26,8 @@ use Rattle.scheduler.proofs.Grounds.{sized-alone, grounded}
 use Rattle.scheduler.proofs.Doing.{lines-full, recorded-lines}
 use Rattle.theory.proofs.HistoryInvariant.{len-le}
 use Rattle.theory.proofs.Coherence.{coherent-invariant, accepted-coherent, call-coherent, sized-call}
-use Rattle.preview.specs.Preview.{addedBy, countOf, countsIn, total, Foretold}
+use Rattle.preview.specs.Preview.{addedBy, countOf, Foretold}
+use Rattle.preview.proofs.Replies.{counts-given}
 
 -- counts of two lists, one after the other
 count-append : (x : Fate) (a b : List Entry) → countOf x (a ++ b) ≡ countOf x a + countOf x b
@@ -156,6 +156,7 @@ module _ (s : State) (e : ℕ) (z : Sized s) where
       let none-added = same-adds q in
       record {
         history = ap lines q ∙ sym (append-nil (lines s)) ∙ ap (λ (l : List Entry). lines s ++ l) (sym none-added);
+        counts = counts-given s e;
         growth = rw none-added (ap lineCount q ∙ omega arith);
         unlapsed = rw none-added;
         idle = λ o. none-added;
@@ -176,6 +177,7 @@ module _ (s : State) (e : ℕ) (z : Sized s) where
       let after = lines-long t (sized-call s (Submit e) z) (call-coherent s (Submit e) z c) in
       record {
         history = history;
+        counts = counts-given s e;
         growth = omega (arith, before, after, all, most, ap length history ∙ length-append (lines s) (addedBy s (Submit e)));
         unlapsed = omega (arith, all, most);
         idle = λ o. same-adds (ap (λ (r : Reply). r .state) (call-accept s (Submit e) h) ∙ accept-same o);

@@ -1,6 +1,7 @@
 -- A preview's reply: its counts, what is written of it, and its two ends.
 use Prim.Native.Nat.{ℕ, _<_}
 use native.Mathlib.Omega.{arith}
+use mathlib.Core.Bool.{Bool, true, false}
 use mathlib.Core.List.{List}
 use mathlib.Core.Logic.{_⊎_, inl, inr}
 use mathlib.Core.Path.{_≡_, refl, sym, _∙_, ap}
@@ -8,6 +9,7 @@ use denote.Enum.Declared.{tagOf}
 use Rattle.plan.proofs.answer.Answer.{the-type}
 use Rattle.preview.specs.Types.{Done, Refused, Lapsed, Entry, Submit, CallFault, Answer, Is, Made, TurnedDown, State, Counts, PreviewReply}
 use Rattle.plan.specs.Faults.{callFaultNumber}
+use Rattle.plan.proofs.Tests.{clash}
 use Rattle.scheduler.specs.Answers.{call}
 use Rattle.image.proofs.Numbers.{answer-byte}
 use Rattle.preview.specs.Preview.{addedBy, countOf, countsIn, previewOf}
@@ -31,6 +33,15 @@ pub counts-noted : (x : PreviewReply) (c : Counts) (a : List ℕ)
     → (0 ≡ previewNumber x) × (countBytes c ≡ writtenBy x a)
 counts-noted x c a h = rw h (refl, refl)
 
+-- whether a reply has counts, and which
+abbrev isCounted : PreviewReply → Bool
+isCounted (PreviewReply.Counted c) = true
+isCounted (PreviewReply.TurnedDown f) = false
+
+abbrev countsOr : Counts → PreviewReply → Counts
+countsOr d (PreviewReply.Counted c) = c
+countsOr d (PreviewReply.TurnedDown f) = d
+
 -- the two ends of a preview
 module _ (s : State) (e : ℕ) where
   pub preview-down : (f : CallFault) → call s (Submit e) .answer ≡ TurnedDown f → previewOf s e ≡ PreviewReply.TurnedDown f
@@ -46,3 +57,12 @@ module _ (s : State) (e : ℕ) where
   preview-counted (Is x) h t = rw (h, previewOf)
   preview-counted Made h t = rw (h, previewOf)
   preview-counted (TurnedDown f) h t = absurd (elim t [ inl z ↦ omega (arith, z) | inr z ↦ omega (arith, z) ])
+
+  -- the counts that a preview gives
+  pub counts-given : (c : Counts) → previewOf s e ≡ PreviewReply.Counted c → c ≡ countsIn (addedBy s (Submit e))
+  counts-given c h = go (call s (Submit e) .answer) refl
+    where
+      go : (a : Answer) → call s (Submit e) .answer ≡ a → c ≡ countsIn (addedBy s (Submit e))
+      go (Is x) q = ap (countsOr c) (sym h ∙ preview-counted (Is x) q (inl refl))
+      go Made q = ap (countsOr c) (sym h ∙ preview-counted Made q (inr refl))
+      go (TurnedDown f) q = absurd (clash refl (ap isCounted (sym h ∙ preview-down f q)))

@@ -34,10 +34,11 @@ previewOf s e =
     elim (call s (Submit e) .answer) [ TurnedDown f ↦ PreviewReply.TurnedDown f | Is x ↦ counted | Made ↦ counted ]
 
 -- what holds of a preview and the hand-in that it is of: the history after that one is the history before it with the lines
--- counted, so that the counts' sum is how many lines it grows by; none of them says lapsed; and the hand-in of an event
--- that isn't open adds none (11.15)
+-- added; where the preview gives counts, they are these lines', their sum is how many lines the history grows by, and none
+-- says lapsed; the hand-in of an event that isn't open adds none (11.15)
 pub record Foretold (s : State) (e : ℕ) : Type 0 where
   pub history : lines (call s (Submit e) .state) ≡ lines s ++ addedBy s (Submit e)
+  pub counts : (c : Counts) → previewOf s e ≡ PreviewReply.Counted c → c ≡ countsIn (addedBy s (Submit e))
   pub growth : lineCount (call s (Submit e) .state) ≡ lineCount s + total (countsIn (addedBy s (Submit e)))
   pub unlapsed : countOf Lapsed (addedBy s (Submit e)) ≡ 0
   pub idle : isOpen (fateOf s e) ≡ false → addedBy s (Submit e) ≡ []
