@@ -1,6 +1,9 @@
 //! Batches: what each entry is answered, and which lists are turned down whole,
 //! through the raw function and through `State::submit_all`.
 
+mod common;
+
+use common::{open, Numbers, PARTIES};
 use sinewhopa::raw::{self, Entry, CLOSE_STEP, HAND_IN};
 use sinewhopa::{Answer, Call, CallFault, Fate, State, LONGEST_BATCH, STATE_LEN};
 use std::collections::BTreeSet;
@@ -16,18 +19,6 @@ const SHEET: &[u8] = &[
     2, 0, 1, 3, 1, 0, 3, 2, 0, 3, 4, 3, // rules
     5,
 ];
-
-/// Two parties that commit only together, each after it has prepared; and an event
-/// that cannot be stopped and needs one that may be brought about.
-const PARTIES: &[u8] = &[
-    6, 0, 6, 1, 1, 5, 0, 1, 6, 1, // events
-    3, 2, 6, 3, 6, 2, 2, 1, 2, 2, 5, 6, 3, 8, 9, // rules
-    5,
-];
-
-fn open(sheet: &[u8]) -> State {
-    State::open(sheet).expect("a sheet")
-}
 
 /// An entry with an answer of before, which must not matter.
 fn entry(kind: u8, number: u8) -> Entry {
@@ -302,16 +293,8 @@ fn damaged_bytes_are_turned_down_first() {
     }
 }
 
-/// Numbers that look like any, the same in every run.
-struct Numbers(u64);
-
 impl Numbers {
-    fn below(&mut self, end: u64) -> u8 {
-        let stepped = self.0.wrapping_mul(6_364_136_223_846_793_005);
-        self.0 = stepped.wrapping_add(1_442_695_040_888_963_407);
-        ((self.0 >> 33) % end) as u8
-    }
-
+    /// One more entry, of any sort.
     fn entry(&mut self) -> Entry {
         let kind = match self.below(8) {
             0 => self.below(256),

@@ -1,6 +1,9 @@
 //! Previews: what handing in an event would settle, held to what handing it in settles,
 //! through the raw function and through `State::preview`.
 
+mod common;
+
+use common::{open, Numbers, PARTIES};
 use sinewhopa::raw::{self, ADDED_COUNTS, ADDED_DONE, ADDED_LAPSED, ADDED_REFUSED};
 use sinewhopa::{Call, CallFault, Fate, Preview, State, STATE_LEN};
 use std::collections::BTreeSet;
@@ -20,18 +23,6 @@ const SHEET: &[u8] = &[
     2, 0, 1, 3, 1, 0, 3, 1, 2, 3, 3, 2, 2, 3, 0, 3, 4, 2, // rules
     5,
 ];
-
-/// Two parties that commit only together, each after it has prepared; and an event
-/// that cannot be stopped and needs one that may be brought about.
-const PARTIES: &[u8] = &[
-    6, 0, 6, 1, 1, 5, 0, 1, 6, 1, // events
-    3, 2, 6, 3, 6, 2, 2, 1, 2, 2, 5, 6, 3, 8, 9, // rules
-    5,
-];
-
-fn open(sheet: &[u8]) -> State {
-    State::open(sheet).expect("a sheet")
-}
 
 fn preview(done: u8, refused: u8) -> Preview {
     Preview {
@@ -246,16 +237,7 @@ fn damaged_bytes_are_turned_down_first() {
     assert!(passed > STATE_LEN && damaged > 2 * passed, "{passed}");
 }
 
-/// Numbers that look like any, the same in every run.
-struct Numbers(u64);
-
 impl Numbers {
-    fn below(&mut self, end: u64) -> u8 {
-        let stepped = self.0.wrapping_mul(6_364_136_223_846_793_005);
-        self.0 = stepped.wrapping_add(1_442_695_040_888_963_407);
-        ((self.0 >> 33) % end) as u8
-    }
-
     /// One more call, turned down or not.
     fn call(&mut self, state: &mut State) {
         let _ = match self.below(8) {

@@ -1,0 +1,29 @@
+//! The examples of a batch and of a preview print what the same hosts in C print.
+
+#[allow(dead_code)]
+#[path = "../examples/batch.rs"]
+mod batch;
+#[allow(dead_code)]
+#[path = "../examples/preview.rs"]
+mod preview;
+
+use std::error::Error;
+
+/// What an example tells.
+fn told(run: impl FnOnce(&mut Vec<u8>) -> Result<(), Box<dyn Error>>) -> String {
+    let mut out = Vec::new();
+    run(&mut out).expect("a run to the end");
+    String::from_utf8(out).expect("text")
+}
+
+#[test]
+fn a_morning_is_told_as_in_c() {
+    let in_c = include_str!("../../../examples/batch/stdout");
+    assert_eq!(told(|out| batch::run(out)), in_c);
+}
+
+#[test]
+fn what_would_be_settled_is_told_as_in_c() {
+    let in_c = include_str!("../../../examples/preview/stdout");
+    assert_eq!(told(|out| preview::run(out)), in_c);
+}
