@@ -49,45 +49,45 @@ at-most [] = omega arith
 at-most (l ∷ ls) = omega (arith, once (l .fate), at-most ls)
 
 -- every line says done or refused
-abbrev pub Made : List Entry → Type 0
-Made ls = countOf Done ls + countOf Refused ls ≡ length ls
+abbrev pub DoneOrRefused : List Entry → Type 0
+DoneOrRefused ls = countOf Done ls + countOf Refused ls ≡ length ls
 
-made-append : (a b : List Entry) → Made a → Made b → Made (a ++ b)
-made-append a b p q = omega (arith, count-append Done a b, count-append Refused a b, length-append a b, p, q)
+said-append : (a b : List Entry) → DoneOrRefused a → DoneOrRefused b → DoneOrRefused (a ++ b)
+said-append a b p q = omega (arith, count-append Done a b, count-append Refused a b, length-append a b, p, q)
 
-made-none : Made []
+said-none : DoneOrRefused []
 unfolding countOf
-made-none = refl
+said-none = refl
 
 -- t's history is that of s and lines that say done or refused
 pub record Grown (s t : State) : Type 0 where
   pub new : List Entry
   pub lines-new : lines t ≡ lines s ++ new
-  pub made : Made new
+  pub said : DoneOrRefused new
 
 grown-same : (s t : State) → lines t ≡ lines s → Grown s t
-grown-same s t q = record { new = []; lines-new = q ∙ sym (append-nil (lines s)); made = made-none }
+grown-same s t q = record { new = []; lines-new = q ∙ sym (append-nil (lines s)); said = said-none }
 
 grown-then : (s t u : State) → Grown s t → Grown t u → Grown s u
 grown-then s t u p q = record {
   new = p .new ++ q .new;
   lines-new = q .lines-new ∙ ap (λ (l : List Entry). l ++ q .new) (p .lines-new) ∙ append-assoc (lines s) (p .new) (q .new);
-  made = made-append (p .new) (q .new) (p .made) (q .made);
+  said = said-append (p .new) (q .new) (p .said) (q .said);
 }
 
 -- an event is settled: a line more, or none where all places are taken
-module _ (x : Fate) (one : (e : ℕ) → Made (record { event = e; fate = x } ∷ [])) where
+module _ (x : Fate) (one : (e : ℕ) → DoneOrRefused (record { event = e; fate = x } ∷ [])) where
   grown-settle : (s : State) (e : ℕ) → Sized s → Grown s (settleAs x s e)
   grown-settle s e z = elim (decLt (lineCount s) 16) [
-    | yes lt ↦ record { new = record { event = e; fate = x } ∷ []; lines-new = lines-settle x s e z lt; made = one e }
+    | yes lt ↦ record { new = record { event = e; fate = x } ∷ []; lines-new = lines-settle x s e z lt; said = one e }
     | no ge ↦ grown-same s (settleAs x s e) (lines-full x s e (omega arith))
   ]
 
-one-done : (e : ℕ) → Made (record { event = e; fate = Done } ∷ [])
+one-done : (e : ℕ) → DoneOrRefused (record { event = e; fate = Done } ∷ [])
 unfolding countOf
 one-done e = refl
 
-one-refused : (e : ℕ) → Made (record { event = e; fate = Refused } ∷ [])
+one-refused : (e : ℕ) → DoneOrRefused (record { event = e; fate = Refused } ∷ [])
 unfolding countOf
 one-refused e = refl
 
@@ -170,7 +170,7 @@ module _ (s : State) (e : ℕ) (z : Sized s) where
   foretold-taken h =
       let c = accepted-coherent s (Submit e) h in
       let added = new-added c in
-      let all : Made (addedBy s (Submit e)) = subst Made (sym added) (grows .made) in
+      let all : DoneOrRefused (addedBy s (Submit e)) = subst DoneOrRefused (sym added) (grows .said) in
       let most = at-most (addedBy s (Submit e)) in
       let history : lines t ≡ lines s ++ addedBy s (Submit e) = grows .lines-new ∙ ap (λ (l : List Entry). lines s ++ l) (sym added) in
       let before = lines-long s z c in

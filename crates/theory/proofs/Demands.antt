@@ -10,7 +10,8 @@ use mathlib.Core.Option.{none, some}
 use mathlib.Core.Path.{_≡_, refl, sym, _∙_, ap, subst}
 use lib.Dec.{eqb}
 use lib.ListN.{length, length-replicate}
-use Rattle.theory.proofs.Types.{Fate, Open, Held, Done, Refused, Lapsed, Rule, Order, Need, Conditional, Plan, Standing, Entry, State, CallFault, Unknown, AlreadyClosed, NotClosed, Reply, Call, Submit, Close, Finish}
+use Rattle.theory.proofs.Types.{Fate, Open, Held, Done, Refused, Lapsed, Rule, Order, Need, Conditional, Plan}
+use Rattle.theory.proofs.Types.{Standing, Entry, State, CallFault, Unknown, AlreadyClosed, NotClosed, Reply, Call, Submit, Close, Finish}
 use Rattle.plan.specs.Base.{anyBelow, allBelow, among, thoseBelow}
 use Rattle.plan.specs.Plans.{eventCount, ruleCount, stepOf, ruleAt, hasEvent}
 use Rattle.scheduler.specs.State.{firstState, fateOf, brokenAt, closedAt, lines, hold, shut, settleAs}
@@ -25,7 +26,8 @@ use Rattle.scheduler.specs.Coherent.{coherent}
 use Rattle.scheduler.specs.Answers.{unclosedAt, callFault, accept, call}
 use Rattle.scheduler.specs.Sheet.{readSheet, admitted}
 use Rattle.scheduler.specs.Lists.{after, scheduler}
-use Rattle.scheduler.specs.Demand.{seen, Observed, nothingYet, submits, closes, anyCall, wasSubmitted, wasClosed, wasFinished, waitsAs, stateOf, accepted, startsDone, doneAlone, newlyRecorded, shows, onlyHistory, observe, observeAll, broken, unbreakable, Holds, Extends, Grows, Keeps}
+use Rattle.scheduler.specs.Demand.{seen, Observed, nothingYet, submits, closes, anyCall, wasSubmitted, wasClosed, wasFinished, waitsAs, stateOf, accepted}
+use Rattle.scheduler.specs.Demand.{startsDone, doneAlone, newlyRecorded, shows, onlyHistory, observe, observeAll, broken, unbreakable, Holds, Extends, Grows, Keeps}
 use Rattle.plan.proofs.Tests.{clash, either, or-either, count-zero, or-both, and-left, and-right, any-none, any-some, any-found, all-at}
 use Rattle.plan.proofs.Arrays.{get-blank, read-blank}
 use Rattle.plan.proofs.Fates.{open-is}

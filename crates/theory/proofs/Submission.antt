@@ -24,14 +24,17 @@ use Rattle.scheduler.specs.Demand.{unbreakable, startsDone}
 use Rattle.scheduler.specs.Grounds.{NoViable}
 use Rattle.plan.proofs.Tests.{clash, either, or-left, or-right, and-left, and-right, and-both, and-not}
 use Rattle.plan.proofs.Fates.{open-is}
-use Rattle.scheduler.proofs.Laws.{fate-settle-other, closed-settle, broken-settle, plan-hold, fate-hold-other, closed-hold, broken-hold, lines-hold, plan-break, fate-break, closed-break, history-break, len-break, lines-break, broken-break-same, broken-break-other, sized-break}
+use Rattle.scheduler.proofs.Laws.{fate-settle-other, closed-settle, broken-settle, plan-hold, fate-hold-other, closed-hold, broken-hold, lines-hold}
+use Rattle.scheduler.proofs.Laws.{plan-break, fate-break, closed-break, history-break, len-break, lines-break, broken-break-same, broken-break-other, sized-break}
 use Rattle.scheduler.proofs.Branches.{decide-order, decide-refuse, decide-alone, submit-delayed, submit-decided}
 use Rattle.scheduler.proofs.Searching.{ready-unsettled, member-settled, chosen-none, chosen-first, viable-has, chosen-none-has}
 use Rattle.scheduler.proofs.Settling.{settle-turns}
 use Rattle.theory.proofs.SoundPlans.{Sound, rule-enforced}
 use Rattle.theory.proofs.HistoryInvariant.{Shape, HistoryListed, BlankBeyond, listing-alike, same-events, shape-settle, fate-then, lines-then, listing-settle, beyond-settle, fate-held, as-held, listing-hold}
-use Rattle.theory.proofs.RuleInvariant.{NoStanding, RulesObeyed, Strict, Quiet, SameToRules, obeyed-same, quiet-same, unpaid, unpaid-same, owes-same, delayable-same, settled-stays, done-then, owed-later, obeyed-do, obeyed-done, obeyed-drop, quiet-drop}
-use Rattle.theory.proofs.Invariant.{held-unsettled, open-unsettled, FatesLater, fates-trans, OpenNotClosed, Later, later-trans, later-drop, Invariant, do-run, turn-keeps, turns-keeps, Resting, Settled, settle-keeps}
+use Rattle.theory.proofs.RuleInvariant.{NoStanding, RulesObeyed, Strict, Quiet, SameToRules, obeyed-same, quiet-same, unpaid, unpaid-same}
+use Rattle.theory.proofs.RuleInvariant.{owes-same, delayable-same, settled-stays, done-then, owed-later, obeyed-do, obeyed-done, obeyed-drop, quiet-drop}
+use Rattle.theory.proofs.Invariant.{held-unsettled, open-unsettled, FatesLater, fates-trans, OpenNotClosed, Later, later-trans}
+use Rattle.theory.proofs.Invariant.{later-drop, Invariant, do-run, turn-keeps, turns-keeps, Resting, Settled, settle-keeps}
 
 -- an open event is held: nothing that the rules read changes
 pub rules-hold : {p : Plan} {s : State} (e : ℕ)
