@@ -4,16 +4,15 @@ use native.Mathlib.Omega.{arith}
 use native.Mathlib.Numerals.{add-one}
 use native.Mathlib.Decide.{decLt}
 use borrow.Author.Tests.{le-ltb, eq-eqb, not-true}
-use mathlib.Core.Bool.{Bool, true, false, not, _&&_, _||_, and-false, and-assoc}
-use mathlib.Core.List.{List, [], _∷_, _++_, append-assoc}
+use mathlib.Core.Bool.{Bool, true, false, not, _&&_, _||_, and-false}
+use mathlib.Core.List.{List, [], _∷_, _++_}
 use mathlib.Core.Path.{_≡_, refl, sym, _∙_, ap}
-use lib.Dec.{ltb}
 use lib.ListN.{length, take, drop, getD, take-append-drop}
 use lib.Seq.{length-take-le, take-all, take-suc, drop-cons, getD-take}
 use Rattle.coherence.specs.Prelude.{Fate, Entry}
 use Rattle.plan.specs.Fates.{isDone, isSettled, sameFate}
 use Rattle.plan.specs.Histories.{blankEntry, fateIf, fatesIn, anyDone, doneIn, declaredOnly, sameFates, listedAs}
-use Rattle.plan.proofs.Lines.{fates-same, done-settled-if}
+use Rattle.plan.proofs.Lines.{declared-append, fates-split, fates-same, done-settled-if}
 
 -- an event that is listed as its fate asks for is done in the history where it is done
 pub listed-done : (h : List Entry) (e : ℕ) (x : Fate) → listedAs h e x ≡ true → doneIn h e ≡ isDone x
@@ -40,17 +39,6 @@ module _ (h : List Entry) (len i : ℕ) (whole : length h ≡ 16) where
 
   pub lines-all : min len 16 ≤ i → take i (take len h) ≡ take len h
   lines-all ge = take-all i (take len h) (rw length-lines ge)
-
--- lines that go on after some
-pub declared-append : (h r : List Entry) (n : ℕ) → declaredOnly (h ++ r) n ≡ (declaredOnly h n && declaredOnly r n)
-unfolding declaredOnly
-declared-append [] r n = refl
-declared-append (k ∷ h) r n = rw (declared-append h r n) (sym (and-assoc (ltb (k .event) n) (declaredOnly h n) (declaredOnly r n)))
-
-fates-split : (h r : List Entry) (e : ℕ) → fatesIn (h ++ r) e ≡ fatesIn h e ++ fatesIn r e
-unfolding fatesIn
-fates-split [] r e = refl
-fates-split (k ∷ h) r e = rw (fates-split h r e, append-assoc)
 
 -- a line that shows the history wrong, whatever follows: its event is not declared; or has a line before, is not
 -- settled or has another fate

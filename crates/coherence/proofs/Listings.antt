@@ -19,8 +19,8 @@ use Rattle.plan.proofs.Tests.{clash, or-either, or-left, or-right, and-left, an
 use Rattle.plan.proofs.Arrays.{read-past, read-in, read-blank}
 use Rattle.plan.proofs.Fates.{fate-same}
 use Rattle.plan.proofs.Loops.{all-fail}
-use Rattle.plan.proofs.Lines.{fates-append, doneIn-append, doneIn-none, turn-append}
-use Rattle.coherence.proofs.Lines.{declared-append, lines-next, lines-cut, lines-all, undeclared-line, wrong-line}
+use Rattle.plan.proofs.Lines.{declared-append, fates-append, doneIn-append, doneIn-none, turn-append}
+use Rattle.coherence.proofs.Lines.{lines-next, lines-cut, lines-all, undeclared-line, wrong-line}
 
 -- after a store that the code makes within the array
 module _ {A : Type 0} (n : ℕ) (l : List A) (i : ℕ) (a d : A) where

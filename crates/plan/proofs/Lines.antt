@@ -1,21 +1,31 @@
 -- What a history says, line by line.
 use Prim.Native.Nat.{ℕ}
-use mathlib.Core.Bool.{Bool, true, false, _&&_, _||_, and-false, or-false, or-assoc}
+use mathlib.Core.Bool.{Bool, true, false, _&&_, _||_, and-false, and-assoc, or-false, or-assoc}
 use mathlib.Core.List.{List, [], _∷_, _++_, append-assoc, append-nil}
-use mathlib.Core.Path.{_≡_, refl, sym, _∙_, ap₂}
-use lib.Dec.{eqb}
+use mathlib.Core.Path.{_≡_, refl, sym, _∙_, ap, ap₂}
+use lib.Dec.{eqb, ltb}
 use Rattle.plan.specs.Prelude.{Fate, Open, Held, Done, Refused, Lapsed, Entry}
 use Rattle.plan.specs.Fates.{isDone, isSettled, sameFate}
-use Rattle.plan.specs.Histories.{fateIf, fatesIn, anyDone, doneIn, doneInTurn, sameFates}
+use Rattle.plan.specs.Histories.{fateIf, fatesIn, anyDone, doneIn, doneInTurn, declaredOnly, sameFates}
 use Rattle.plan.proofs.Tests.{clash, and-left, and-right}
 use Rattle.plan.proofs.Fates.{fate-same}
+
+-- lines that go on after some
+pub declared-append : (h r : List Entry) (n : ℕ) → declaredOnly (h ++ r) n ≡ (declaredOnly h n && declaredOnly r n)
+unfolding declaredOnly
+declared-append [] r n = refl
+declared-append (k ∷ h) r n = rw (declared-append h r n) (sym (and-assoc (ltb (k .event) n) (declaredOnly h n) (declaredOnly r n)))
+
+pub fates-split : (h r : List Entry) (e : ℕ) → fatesIn (h ++ r) e ≡ fatesIn h e ++ fatesIn r e
+unfolding fatesIn
+fates-split [] r e = refl
+fates-split (k ∷ h) r e = rw (fates-split h r e, append-assoc)
 
 -- one more line at the end, and one at the front
 pub fates-append : (h : List Entry) (l : Entry) (e : ℕ)
     → fatesIn (h ++ (l ∷ [])) e ≡ fatesIn h e ++ fateIf (eqb (l .event) e) (l .fate)
 unfolding fatesIn
-fates-append [] l e = append-nil (fateIf (eqb (l .event) e) (l .fate))
-fates-append (k ∷ h) l e = rw (fates-append h l e, append-assoc)
+fates-append h l e = fates-split h (l ∷ []) e ∙ ap (λ xs. fatesIn h e ++ xs) (append-nil (fateIf (eqb (l .event) e) (l .fate)))
 
 done-append : (xs ys : List Fate) → anyDone (xs ++ ys) ≡ (anyDone xs || anyDone ys)
 unfolding anyDone

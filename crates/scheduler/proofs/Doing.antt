@@ -2,25 +2,25 @@
 -- never changes.
 use Prim.Native.Nat.{ℕ, zero, suc, _≤_, _<_}
 use native.Mathlib.Omega.{arith}
-use native.Mathlib.Decide.{ℕ-discrete, decLt}
+use native.Mathlib.Decide.{decLt}
 use borrow.Author.Tests.{le-ltb}
 use mathlib.Core.Bool.{Bool, true, false}
 use mathlib.Core.List.{List, [], _∷_, _++_, append-nil, append-assoc}
 use mathlib.Core.Logic.{_≢_, inl, inr}
 use mathlib.Core.Option.{Option, none, some}
 use mathlib.Core.Path.{_≡_, refl, sym, _∙_, ap, subst}
-use Rattle.scheduler.specs.Prelude.{Fate, Open, Held, Done, Refused, Lapsed, Entry, State, Call, Submit, Close, Finish, CallFault, Reply}
+use Rattle.scheduler.specs.Prelude.{Fate, Held, Done, Refused, Lapsed, State, Call, Submit, Close, Finish, Reply}
 use Rattle.plan.specs.Plans.{eventCount, ruleCount, rejectable, delayable}
-use Rattle.plan.specs.Fates.{isOpen, isHeld, isSettled}
+use Rattle.plan.specs.Fates.{isOpen, isSettled}
 use Rattle.scheduler.specs.State.{fateOf, lineCount, lines, hold, settleAs, shut, Sized}
 use Rattle.scheduler.specs.Rules.{barred, strains}
-use Rattle.scheduler.specs.Orders.{doOne, doAll, Runs, Viable, chosen}
-use Rattle.scheduler.specs.Calls.{AtRest, settleOnce, settle, breakIf, recordBroken, doAlone, decide, submit, lapse, closeStep, refuseHeld, finish}
-use Rattle.scheduler.specs.Answers.{callFault, accept, call}
+use Rattle.scheduler.specs.Orders.{doOne, doAll, Runs, chosen}
+use Rattle.scheduler.specs.Calls.{AtRest, settleOnce, settle, breakIf, recordBroken, doAlone, decide, closeStep, refuseHeld, finish}
+use Rattle.scheduler.specs.Answers.{accept}
 use Rattle.scheduler.specs.Lists.{scheduler}
 use Rattle.scheduler.specs.Demand.{Extends}
 use Rattle.scheduler.specs.Grounds.{NoViable, Ground, by-bar, by-submission, by-finish, Trail, end, held, ordered, alone, refused, shuts, lapsed}
-use Rattle.scheduler.specs.Doing.{Acts, Does, Doing}
+use Rattle.scheduler.specs.Doing.{Acts, Doing}
 use Rattle.plan.proofs.Tests.{clash, either}
 use Rattle.scheduler.proofs.Laws.{fate-hold-other, lines-hold, sized-hold, fate-settle-other, lines-settle, sized-settle, fate-shut, lines-shut, sized-shut, fate-break, lines-break, sized-one, fate-one-other}
 use Rattle.scheduler.proofs.Branches.{decide-order, decide-refuse, decide-alone, submit-delayed, submit-decided, lowestHeld, refuse-none, refuse-some, call-fault, call-accept}

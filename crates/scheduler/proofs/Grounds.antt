@@ -144,7 +144,9 @@ refuse-trail (suc n) s z rest = go (lowestHeld s) refl (refuse-trail n)
     go (some e) h rec =
         let t = settleAs Refused s e in
         let z′ = sized-settle Refused s e z in
-        subst (Trail Finish s) (sym (refuse-some n s e h)) (refused e (by-finish refl (lowest-some s (held-tested s) e h) (once-none s z rest)) (then (settle-trail Finish t z′) (rec (settle t) (sized-settling t z′) (settle-rest t z′))))
+        subst (Trail Finish s) (sym (refuse-some n s e h))
+        (refused e (by-finish refl (lowest-some s (held-tested s) e h) (once-none s z rest))
+        (then (settle-trail Finish t z′) (rec (settle t) (sized-settling t z′) (settle-rest t z′))))
 
 finish-trail : (s : State) → Sized s → Trail Finish s (finish s)
 unfolding finish

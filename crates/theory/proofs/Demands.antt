@@ -31,7 +31,7 @@ use Rattle.scheduler.specs.Demand.{startsDone, doneAlone, newlyRecorded, shows,
 use Rattle.plan.proofs.Tests.{clash, either, or-either, count-zero, or-both, and-left, and-right, any-none, any-some, any-found, all-at}
 use Rattle.plan.proofs.Arrays.{get-blank, read-blank}
 use Rattle.plan.proofs.Fates.{open-is}
-use Rattle.scheduler.proofs.Laws.{fate-hold-same, fate-hold-other, plan-hold, closed-hold, broken-hold, lines-hold, broken-settle, fate-shut, broken-shut, lines-shut, closed-shut-same, closed-shut-other}
+use Rattle.scheduler.proofs.Laws.{fate-hold-same, fate-hold-other, closed-hold, broken-hold, lines-hold, broken-settle, fate-shut, broken-shut, lines-shut, closed-shut-same, closed-shut-other}
 use Rattle.scheduler.proofs.Branches.{submit-same, call-fault, call-accept}
 use Rattle.theory.proofs.SoundPlans.{Sound, step-low}
 use Rattle.theory.proofs.SheetPlans.{sheet-first, sheet-sound}

@@ -16,19 +16,10 @@ use Rattle.plan.specs.Plans.{eventCount}
 use Rattle.scheduler.specs.State.{fateOf, lineCount, lines, hold, settleAs, Sized}
 use Rattle.plan.specs.Histories.{blankEntry, fateIf, fatesIn, declaredOnly}
 use Rattle.plan.specs.Fates.{isSettled}
-use Rattle.plan.proofs.Tests.{and-left, and-right, and-both, count-le, count-same, count-more}
-use Rattle.plan.proofs.Lines.{fates-append}
-use Rattle.scheduler.proofs.Laws.{plan-settle, fate-settle-same, fate-settle-other, sized-settle, len-settle, lines-settle, line-settle-other, plan-hold, fate-hold-same, fate-hold-other, sized-hold, len-hold, lines-hold, history-hold}
-
-pub declared-append : (h : List Entry) (l : Entry) (n : ℕ)
-    → declaredOnly h n ≡ true
-    → l .event < n
-    → declaredOnly (h ++ (l ∷ [])) n ≡ true
-unfolding declaredOnly
-declared-append [] l n d lt = rw (lt-ltb (l .event) n lt)
-declared-append (k ∷ h) l n d lt =
-    and-both (ltb (k .event) n) (declaredOnly (h ++ (l ∷ [])) n) (and-left (ltb (k .event) n) (declaredOnly h n) d)
-    (declared-append h l n (and-right (ltb (k .event) n) (declaredOnly h n) d) lt)
+use Rattle.plan.proofs.Tests.{and-left, and-right, count-le, count-same, count-more}
+use Rattle.plan.proofs.Lines.{declared-append, fates-append}
+use Rattle.scheduler.proofs.Laws.{plan-settle, fate-settle-same, fate-settle-other, sized-settle, len-settle, lines-settle, line-settle-other}
+use Rattle.scheduler.proofs.Laws.{plan-hold, fate-hold-same, fate-hold-other, sized-hold, len-hold, lines-hold, history-hold}
 
 -- a history of declared events names no other
 pub unlisted : (h : List Entry) (n e : ℕ) → declaredOnly h n ≡ true → n ≤ e → fatesIn h e ≡ []
@@ -105,12 +96,13 @@ module _ {p : Plan} {s : State} (x : Fate) (e : ℕ) (fin : isSettled x ≡ true
       rw (fates-then j, ne-eqb e j (λ r. ne (sym r)), append-nil, fate-settle-other x s e j ne) (k .listed j l)
 
   pub listing-settle : HistoryListed p (settleAs x s e)
+  unfolding declaredOnly
   listing-settle = record {
     shape = shape-settle x s e (k .shape);
     few = k .few;
     tally = len-then ∙ add-one (lineCount s) ∙ ap suc (k .tally) ∙ sym more;
     listed = λ j l. elim (ℕ-discrete j e) [ yes r ↦ rw r listed-same | no ne ↦ listed-other j l ne ];
-    only = rw lines-then (declared-append (lines s) (record { event = e; fate = x }) (eventCount p) (k .only) lt);
+    only = rw lines-then (declared-append (lines s) (record { event = e; fate = x } ∷ []) (eventCount p) ∙ rw (k .only, lt-ltb e (eventCount p) lt));
   }
 
   pub beyond-settle : BlankBeyond p s → BlankBeyond p (settleAs x s e)

@@ -29,8 +29,22 @@ abbrev search-below : ℕ → In 0 search-kinds.ps
 search-below t = and 0 search-kinds.ps (falls 0 search-kinds.ps _<_ μ-search t) search′.Pre
 
 abbrev claims : ℕ → search-lts.Claims
-claims t =
-    (lowest-of-reads.Asked, lowest-of-reads.Learnt, blocked-in-reads.Asked, blocked-in-reads.Learnt, without-reads.Asked, without-reads.Learnt, with-if-reads.Asked, with-if-reads.Learnt, do-one-reads.Asked, do-one-reads.Learnt, view-after-reads.Asked, view-after-reads.Learnt, search-below t, search′.Post)
+claims t = (
+  lowest-of-reads.Asked,
+  lowest-of-reads.Learnt,
+  blocked-in-reads.Asked,
+  blocked-in-reads.Learnt,
+  without-reads.Asked,
+  without-reads.Learnt,
+  with-if-reads.Asked,
+  with-if-reads.Learnt,
+  do-one-reads.Asked,
+  do-one-reads.Learnt,
+  view-after-reads.Asked,
+  view-after-reads.Learnt,
+  search-below t,
+  search′.Post,
+)
 
 module _ (t : ℕ) where
   search-lowest-of-requires : search-lts.Need-lowest-of-requires (claims t) (search-at t) search′.Post
