@@ -72,6 +72,12 @@ extern "C" {
     fn sinewhopa_finish(state: *mut u8) -> u8;
     fn sinewhopa_submit_all(state: *mut u8, entries: *mut Entry, n: usize) -> u8;
     fn sinewhopa_preview(state: *const u8, event: u8, added: *mut u8) -> u8;
+    fn sinewhopa_write_sheet(
+        state: *const u8,
+        out: *mut u8,
+        out_len: usize,
+        need: *mut usize,
+    ) -> u8;
     fn sinewhopa_check(state: *const u8) -> u8;
     fn sinewhopa_report(state: *const u8, refused: usize, out: *mut u8, out_len: usize) -> usize;
     fn sinewhopa_run(
@@ -165,6 +171,31 @@ pub fn preview(state: &[u8; STATE_LEN], event: u8, added: &mut [u8; ADDED_COUNTS
     // SAFETY: `state` has the bytes of a state, which are only read; `added` has its
     // four bytes and is borrowed mutably, so it does not overlap them.
     unsafe { sinewhopa_preview(state.as_ptr(), event, added.as_mut_ptr()) }
+}
+
+/// Writes the sheet that declares the state's events and rules at the start of `out`, and
+/// gives 0 and its length. Or gives 12 and 0; or else, where the length is more than `out`
+/// has, 14 and the length. With 12 and 14 `out` is left as it was, and bytes beyond the
+/// sheet always are. The state is only read.
+///
+/// ```
+/// use sinewhopa::raw;
+///
+/// let mut out = [9; 8];
+/// let mut state = [0; sinewhopa::STATE_LEN];
+/// assert_eq!((raw::write_sheet(&state, &mut out), out), ((12, 0), [9; 8])); // no state yet
+/// raw::open(&mut state, &[1, 3, 6, 5]);
+/// assert_eq!(raw::write_sheet(&state, &mut []), (14, 4)); // how long it is
+/// assert_eq!(raw::write_sheet(&state, &mut out), (0, 4));
+/// assert_eq!(out, [1, 3, 6, 5, 9, 9, 9, 9]);
+/// ```
+pub fn write_sheet(state: &[u8; STATE_LEN], out: &mut [u8]) -> (u8, usize) {
+    let mut need = 0;
+    // SAFETY: `state` has the bytes of a state, which are only read; `out` has its length
+    // and is not null; `out` and `need` are borrowed mutably, so nothing overlaps them.
+    let number =
+        unsafe { sinewhopa_write_sheet(state.as_ptr(), out.as_mut_ptr(), out.len(), &mut need) };
+    (number, need)
 }
 
 /// Gives 0 where the bytes are those of a state that hangs together, else 12.
