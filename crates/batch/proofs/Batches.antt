@@ -18,7 +18,7 @@ use Rattle.scheduler.specs.Demand.{seen, Demand3}
 use Rattle.scheduler.specs.Lists.{scheduler, after}
 use Rattle.scheduler.specs.Sheet.{readSheet, admitted}
 use Rattle.scheduler.specs.State.{Sized}
-use Rattle.theory.proofs.Coherence.{call-coherent, sized-call}
+use Rattle.theory.proofs.Coherence.{call-coherent, sized-call, after-sized, after-coherent}
 use Rattle.theory.proofs.Demands.{demand3, admitted-coherent}
 use Rattle.image.proofs.ImageCalls.{admitted-whole}
 use Rattle.batch.specs.Batch.{askedBy, callsOf, answered, afterEntry, answers, batchFault, batchReply, batchEntries, Extends, Move, one, together, moved, callsIn}
@@ -57,18 +57,7 @@ answers-parts s (e ∷ es) fs =
     ap (λ (l : List BatchEntry). answered s e ∷ l) (answers-parts (afterEntry s e) es fs)
     ∙ ap (λ (t : State). answered s e ∷ (answers (afterEntry s e) es ++ answers t fs)) (sym (after-first s e es))
 
--- a list leaves a state that passes number 12 one that does
-pub after-coherent : (s : State) (cs : List Call) → Sized s → coherent s ≡ true → coherent (after scheduler s cs) ≡ true
-unfolding after
-after-coherent s [] z h = h
-after-coherent s (c ∷ cs) z h = after-coherent (call s c .state) cs (sized-call s c z) (call-coherent s c z h)
-
-after-sized : (s : State) (cs : List Call) → Sized s → Sized (after scheduler s cs)
-unfolding after
-after-sized s [] z = z
-after-sized s (c ∷ cs) z = after-sized (call s c .state) cs (sized-call s c z)
-
--- so does a batch
+-- a batch leaves a state that passes number 12 one that does
 pub batch-coherent : (s : State) (es : List BatchEntry) → Sized s → coherent s ≡ true → coherent (batchReply s es .state) ≡ true
 batch-coherent s es z h = go (batchFault s (length es)) refl
   where

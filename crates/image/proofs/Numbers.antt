@@ -6,7 +6,7 @@ use mathlib.Core.Bool.{Bool, true, false, _&&_, _||_}
 use mathlib.Core.Logic.{_≢_}
 use mathlib.Core.Path.{_≡_, refl, sym}
 use lib.Dec.{eqb, ltb}
-use Rattle.image.specs.Types.{Fate, Open, Held, Done, Refused, Lapsed, Rule, Order, Need, Conditional, Record, Answer, Is, Made, TurnedDown, Verdict, Faulty, SheetFault, Cut, BadKind, Full, BadStep, BadAttributes, BadNames, Unenforceable, Extra, CallFault, Unknown, AlreadyClosed, NotClosed, Incoherent, TooLong}
+use Rattle.image.specs.Types.{Fate, Open, Held, Done, Refused, Lapsed, Rule, Order, Need, Conditional, Record, Answer, Is, Made, TurnedDown, Verdict, Faulty, SheetFault, Cut, BadKind, Full, BadStep, BadAttributes, BadNames, Unenforceable, Extra, CallFault, Unknown, AlreadyClosed, NotClosed, Incoherent, TooLong, NoRoom}
 use Rattle.plan.specs.Base.{oneIf}
 use Rattle.plan.specs.Fates.{fateNumber}
 use Rattle.plan.specs.Faults.{sheetFaultNumber, callFaultNumber, answerNumber}
@@ -116,12 +116,13 @@ sheet-number-low BadNames = omega arith
 sheet-number-low Unenforceable = omega arith
 sheet-number-low Extra = omega arith
 
-call-number-low : (f : CallFault) → callFaultNumber f ≤ 13
+call-number-low : (f : CallFault) → callFaultNumber f ≤ 14
 call-number-low Unknown = omega arith
 call-number-low AlreadyClosed = omega arith
 call-number-low NotClosed = omega arith
 call-number-low Incoherent = omega arith
 call-number-low TooLong = omega arith
+call-number-low NoRoom = omega arith
 
 pub sheet-byte : (v : Verdict) (f : SheetFault) (at n : ℕ) → v ≡ Faulty f at → n ≡ sheetFaultNumber f → n < 256
 sheet-byte v f at n h e = omega (arith, e, sheet-number-low f)
@@ -137,3 +138,4 @@ fault-above AlreadyClosed = omega arith
 fault-above NotClosed = omega arith
 fault-above Incoherent = omega arith
 fault-above TooLong = omega arith
+fault-above NoRoom = omega arith

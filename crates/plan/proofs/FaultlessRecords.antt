@@ -3,14 +3,14 @@ use Prim.Native.Nat.{ℕ, _+_, _≤_, _<_}
 use mathlib.Core.Bool.{false, not, _&&_, _||_}
 use mathlib.Core.Option.{none}
 use mathlib.Core.Path.{_≡_}
-use borrow.Author.Tests.{ltb-false, leb-false, eqb-false}
+use borrow.Author.Tests.{ltb-false, leb-false, eqb-false, le-ltb, lt-leb, ne-eqb}
 use lib.Dec.{eqb, ltb}
 use Rattle.plan.specs.Prelude.{Plan, Record}
 use Rattle.plan.specs.Plans.{eventCount, ruleCount}
 use Rattle.plan.specs.Rules.{badStep, badAttributes, named, enforceable}
 use Rattle.plan.specs.Records.{bodyLength, newEvents, newRules, isRule, ruleOf, recordFault}
-use Rattle.plan.proofs.Tests.{or-left, or-right}
-use Rattle.plan.proofs.Tables.{none-applies}
+use Rattle.plan.proofs.Tests.{or-left, or-right, or-both}
+use Rattle.plan.proofs.Tables.{none-applies, no-row-none}
 
 pub record Faultless (p : Plan) (len at : ℕ) (r : Record) : Type 0 where
   pub inside : at < len
@@ -46,3 +46,23 @@ faultless p len at r h =
       names = g .0;
       enforced = none-applies _ _ _ (g .1) .0;
     }
+
+-- and the other way: where no row applies there is no fault
+pub no-fault : (p : Plan) (len at : ℕ) (r : Record) → Faultless p len at r → recordFault p len at r ≡ none
+unfolding recordFault
+no-fault p len at r c =
+    let events = eventCount p + newEvents (r .kind) in
+    let rules = ruleCount p + newRules (r .kind) in
+    no-row-none _ (
+      lt-leb len at (c .inside),
+      (
+        or-both (eqb (r .kind) 0) (ltb 6 (r .kind)) (ne-eqb (r .kind) 0 (c .low)) (le-ltb 6 (r .kind) (c .high)),
+        (
+          le-ltb len (at + 1 + bodyLength (r .kind)) (c .whole),
+          (
+            or-both (ltb 16 events) (ltb 16 rules) (le-ltb 16 events (c .events)) (le-ltb 16 rules (c .rules)),
+            (c .step, (c .attributes, (c .names, (c .enforced, tt)))),
+          ),
+        ),
+      ),
+    )

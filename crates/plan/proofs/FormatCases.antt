@@ -7,7 +7,7 @@ use mathlib.Core.Path.{_≡_, refl}
 use lib.ListN.{take}
 use Rattle.plan.specs.Prelude.{FateAnswered, Held, Rule, Order, Need, Conditional, Call, Submit, Close, Finish}
 use Rattle.plan.specs.Prelude.{Cut, BadKind, Full, BadStep, BadAttributes, BadNames, Unenforceable, Extra}
-use Rattle.plan.specs.Prelude.{Unknown, AlreadyClosed, NotClosed, Incoherent, TooLong, Answer, Is, Made, TurnedDown}
+use Rattle.plan.specs.Prelude.{Unknown, AlreadyClosed, NotClosed, Incoherent, TooLong, NoRoom, Answer, Is, Made, TurnedDown}
 use Rattle.plan.specs.Plans.{eventCount, ruleCount}
 use Rattle.plan.specs.Rules.{named, enforceable}
 use Rattle.plan.specs.Faults.{sheetFaultNumber, callFaultNumber, firstFault}
@@ -156,8 +156,8 @@ pub sheet-numbers :
 sheet-numbers = refl
 
 pub call-numbers :
-    map callFaultNumber (Unknown ∷ AlreadyClosed ∷ NotClosed ∷ Incoherent ∷ TooLong ∷ [])
-    ≡ 9 ∷ 10 ∷ 11 ∷ 12 ∷ 13 ∷ []
+    map callFaultNumber (Unknown ∷ AlreadyClosed ∷ NotClosed ∷ Incoherent ∷ TooLong ∷ NoRoom ∷ [])
+    ≡ 9 ∷ 10 ∷ 11 ∷ 12 ∷ 13 ∷ 14 ∷ []
 call-numbers = refl
 
 abbrev answers : List Answer

@@ -38,3 +38,7 @@ NoRow (x ∷ xs) = (x .0 ≡ false) × NoRow xs
 pub no-row : {F : Type 0} (l : List (Bool × F)) → firstFault l ≡ none → NoRow l
 no-row [] h = tt
 no-row (x ∷ xs) h = let q = none-applies (x .0) (x .1) xs h in (q .0, no-row xs (q .1))
+
+pub no-row-none : {F : Type 0} (l : List (Bool × F)) → NoRow l → firstFault l ≡ none
+no-row-none [] h = rows-none
+no-row-none (x ∷ xs) h = row-miss (x .0) (x .1) xs (h .0) ∙ no-row-none xs (h .1)

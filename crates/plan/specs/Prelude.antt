@@ -22,7 +22,7 @@ pub use Rattle.plan.specs.declared.calls.CallRead.the-variants.{Listed, 
 pub use Rattle.plan.specs.declared.answer.SheetFault.{SheetFault}
 pub use Rattle.plan.specs.declared.answer.SheetFault.the-variants.{Cut, BadKind, Full, BadStep, BadAttributes, BadNames, Unenforceable, Extra}
 pub use Rattle.plan.specs.declared.answer.CallFault.{CallFault}
-pub use Rattle.plan.specs.declared.answer.CallFault.the-variants.{Unknown, AlreadyClosed, NotClosed, Incoherent, TooLong}
+pub use Rattle.plan.specs.declared.answer.CallFault.the-variants.{Unknown, AlreadyClosed, NotClosed, Incoherent, TooLong, NoRoom}
 pub use Rattle.plan.specs.declared.answer.Answer.{Answer}
 pub use Rattle.plan.specs.declared.answer.Answer.the-variants.{Is, Made, TurnedDown}
 pub use Rattle.plan.specs.declared.answer.FateAnswered.{FateAnswered}

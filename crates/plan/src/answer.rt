@@ -15,13 +15,14 @@ pub enum SheetFault {
     Extra,
 }
 
-// Why a call is turned down, in the order of the numbers 9 to 13; the last is a batch's alone.
+// Why a call is turned down, in the order of the numbers 9 to 14; the last two are a batch's and a lent buffer's.
 pub enum CallFault {
     Unknown,
     AlreadyClosed,
     NotClosed,
     Incoherent,
     TooLong,
+    NoRoom,
 }
 
 // What a call answers: a hand-in the event's fate, the others that they were made.
@@ -68,6 +69,7 @@ pub fn call_fault_number(fault: CallFault) -> usize
         CallFault::NotClosed => 11,
         CallFault::Incoherent => 12,
         CallFault::TooLong => 13,
+        CallFault::NoRoom => 14,
     }
 }
 

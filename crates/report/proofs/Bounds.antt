@@ -21,8 +21,8 @@ use Rattle.plan.specs.Histories.{blankEntry}
 use Rattle.plan.specs.Fates.{isHeld}
 use Rattle.plan.specs.Faults.{sheetFaultNumber}
 use Rattle.scheduler.specs.Runner.{heldCount, brokenCount, decimal, line, historyLines, report}
-use Rattle.report.specs.Internal.Written.{fateEnd, entryLine, head, tail, stateText, faultLine}
-use Rattle.report.proofs.Pages.{length-one, length-more}
+use Rattle.report.specs.Internal.Texts.{fateEnd, entryLine, head, tail, stateText, faultLine}
+use Rattle.report.proofs.Digits.{length-one, length-more}
 use Rattle.report.proofs.Splits.{eventsLead, rulesLead, heldLead, brokenLead, callsLead, refusedLead, atLead, entry-split, head-split, tail-split, state-split, fault-is, lines-append, report-admitted, report-faulty}
 use Rattle.scheduler.proofs.reply.Outcome as the-outcome
 use Rattle.plan.proofs.answer.Verdict as the-verdict

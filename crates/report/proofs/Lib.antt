@@ -1,5 +1,4 @@
--- Lemmas on texts put into a page, and on how long a report can be.
-pub mod Pages
+-- Lemmas on the texts of a report, and on how long it can be.
+pub mod Digits
 pub mod Splits
-pub mod Copied
 pub mod Bounds

@@ -13,28 +13,9 @@ use Rattle.scheduler.specs.State.{lines}
 use Rattle.plan.specs.Histories.{blankEntry}
 use Rattle.plan.specs.Faults.{sheetFaultNumber}
 use Rattle.scheduler.specs.Runner.{heldCount, brokenCount, decimal, fateWord, eventsWord, rulesWord, brokenWord, callsWord, atWord, _␣_, line, historyLines, report}
-use Rattle.report.specs.Internal.Written.{Put, fateEnd, entryLine, head, tail, stateText, faultLine}
-use Rattle.report.proofs.Pages.{put-then, put-as}
-
--- a text that is two, one after the other
-module _ {text : List ℕ} (a b : List ℕ) (split : text ≡ a ++ b) where
-  -- its length is the sum
-  sizes : length text ≡ length a + length b
-  sizes = ap length split ∙ length-append a b
-
-  -- where it has room, they have
-  pub room-first : (at : ℕ) → at + length text ≤ 320 → at + length a ≤ 320
-  room-first at room = omega (arith, sizes)
-
-  pub room-then : (at n : ℕ) → at + length text ≤ 320 → n ≡ at + length a → n + length b ≤ 320
-  room-then at n room ends = omega (arith, sizes)
-
-  -- it is put by putting both
-  pub put-both : {page : List ℕ} {at : ℕ} {mid : List ℕ} {n : ℕ} {after : List ℕ} {end : ℕ}
-      → Put page at a mid n
-      → Put mid n b after end
-      → Put page at text after end
-  put-both p q = put-as (sym split) (put-then p q)
+use Rattle.pages.specs.Written.{Put}
+use Rattle.report.specs.Internal.Texts.{fateEnd, entryLine, head, tail, stateText, faultLine}
+use Rattle.pages.proofs.Pages.{put-then, put-as, room-first, room-then, put-both, After, put-after}
 
 -- a word and a space, before a number
 abbrev pub eventsLead : List ℕ
@@ -58,9 +39,15 @@ refusedLead = fateWord Refused ++ (32 ∷ [])
 abbrev pub atLead : List ℕ
 atLead = (32 ∷ atWord) ++ (32 ∷ [])
 
--- the fate that a test told
-pub fate-room : (at : ℕ) {x y : Fate} → x ≡ y → at + length (fateEnd x) ≤ 320 → at + length (fateEnd y) ≤ 320
-fate-room at {x} {y} e room = omega (arith, ap (λ (z : Fate). length (fateEnd z)) e)
+-- the end of a line is put, of the fate that a test told
+pub fate-put : (page : List ℕ) (at : ℕ) (after : List ℕ) (end : ℕ) {x y : Fate}
+    → x ≡ y
+    → at + length (fateEnd x) ≤ 320
+    → After page at (fateEnd y) after end
+    → Put page at (fateEnd x) after end
+fate-put page at after end {x} {y} e room h =
+    let same = ap fateEnd e in
+    put-as (sym same) (put-after page at (fateEnd y) (omega (arith, ap length same)) after end h)
 
 -- a history line, the first line, the last lines, the whole report, and the line of a sheet turned down
 pub entry-split : (l : Entry) → entryLine l ≡ decimal (l .event) ++ fateEnd (l .fate)

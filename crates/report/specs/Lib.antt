@@ -1,4 +1,3 @@
--- What a buffer holds after a report is written; `Internal` is for private functions.
+-- Names for types; what a report is stands in `scheduler`, what a buffer holds after it in `pages`. `Internal` is for private functions.
 pub mod Types
-pub mod Filled
 pub mod Internal

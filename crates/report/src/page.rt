@@ -1,23 +1,11 @@
-// Text put into a page from an offset on. Each function answers where its text ends.
-use super::MOST;
+// Numbers put into a page from an offset on, with a word before them. Each function answers where its text ends.
+use pages::MOST;
+use pages::put_bytes;
 ghost use Prim.Native.Nat.{_+_, _≤_};
 ghost use mathlib.Core.List.{_++_};
 ghost use lib.ListN.{length};
 ghost use Rattle.scheduler.specs.Runner.{decimal, line};
-ghost use Rattle.report.specs.Internal.Written.{Put};
-
-// A word's bytes.
-pub(crate) fn put_word(page: &mut [u8; MOST], at: usize, word: &[u8]) -> usize
-    requires { ⌜ at + length (now word) ≤ 320 ⌝ }
-    ensures { λ r. ⌜ Put (now (page .entry)) at (now (word .entry)) (now (page .exit)) r ⌝ }
-{
-    let mut i: usize = 0;
-    while i < word.len() {
-        page[at + i] = word[i];
-        i += 1;
-    }
-    at + word.len()
-}
+ghost use Rattle.pages.specs.Written.{Put};
 
 // A number in decimal digits.
 pub(crate) fn put_decimal(page: &mut [u8; MOST], at: usize, x: usize) -> usize
@@ -38,7 +26,7 @@ pub(crate) fn put_count(page: &mut [u8; MOST], at: usize, word: &[u8], x: usize)
     requires { ⌜ at + length (now word ++ decimal x) ≤ 320 ⌝ }
     ensures { λ r. ⌜ Put (now (page .entry)) at (now (word .entry) ++ decimal x) (now (page .exit)) r ⌝ }
 {
-    let next = put_word(page, at, word);
+    let next = put_bytes(page, at, word);
     put_decimal(page, next, x)
 }
 
@@ -48,5 +36,5 @@ pub(crate) fn put_line(page: &mut [u8; MOST], at: usize, word: &[u8], x: usize) 
     ensures { λ r. ⌜ Put (now (page .entry)) at (line (now (word .entry) ++ decimal x)) (now (page .exit)) r ⌝ }
 {
     let next = put_count(page, at, word, x);
-    put_word(page, next, b"\n")
+    put_bytes(page, next, b"\n")
 }

@@ -1,9 +1,9 @@
 // The lines of a report.
-use super::MOST;
 use super::page::put_count;
 use super::page::put_decimal;
 use super::page::put_line;
-use super::page::put_word;
+use pages::MOST;
+use pages::put_bytes;
 use plan::answer::SheetFault;
 use plan::answer::Verdict;
 use plan::answer::sheet_fault_number;
@@ -17,7 +17,8 @@ use scheduler::state::State;
 ghost use Prim.Native.Nat.{_+_, _≤_};
 ghost use lib.ListN.{length, take};
 ghost use Rattle.scheduler.specs.Runner.{historyLines, report};
-ghost use Rattle.report.specs.Internal.Written.{Put, fateEnd, entryLine, head, tail, stateText, faultLine};
+ghost use Rattle.pages.specs.Written.{Put};
+ghost use Rattle.report.specs.Internal.Texts.{fateEnd, entryLine, head, tail, stateText, faultLine};
 
 // An outcome's report.
 pub(crate) fn put_report(page: &mut [u8; MOST], outcome: Outcome) -> usize
@@ -38,11 +39,11 @@ fn put_fate(page: &mut [u8; MOST], at: usize, fate: Fate) -> usize
     ensures { λ r. ⌜ Put (now (page .entry)) at (fateEnd fate) (now (page .exit)) r ⌝ }
 {
     match fate {
-        Fate::Open => put_word(page, at, b" open\n"),
-        Fate::Held => put_word(page, at, b" held\n"),
-        Fate::Done => put_word(page, at, b" done\n"),
-        Fate::Refused => put_word(page, at, b" refused\n"),
-        Fate::Lapsed => put_word(page, at, b" lapsed\n"),
+        Fate::Open => put_bytes(page, at, b" open\n"),
+        Fate::Held => put_bytes(page, at, b" held\n"),
+        Fate::Done => put_bytes(page, at, b" done\n"),
+        Fate::Refused => put_bytes(page, at, b" refused\n"),
+        Fate::Lapsed => put_bytes(page, at, b" lapsed\n"),
     }
 }
 

@@ -11,7 +11,7 @@ use Rattle.scheduler.specs.declared.state.State.{State}
 use Rattle.scheduler.specs.Runner.{report}
 use Rattle.image.specs.Layout.{stateIn}
 use Rattle.image.specs.Calls.{isSound, keptOutcome, reportOn}
-use Rattle.report.specs.Filled.{filled}
+use Rattle.pages.specs.Filled.{filled}
 
 -- a text's length and what it leaves in a buffer, as a function promises them
 abbrev Written : List ℕ → List ℕ → ℕ → List ℕ → Type 0

@@ -1,14 +1,16 @@
 // The static library: what include/sinewhopa.h declares. Here the run of a whole list; in state.rt single calls on a
-// state that the host keeps, in batches.rt several together, in previews.rt what one would settle.
+// state that the host keeps, in batches.rt several together, in previews.rt what one would settle, in sheets.rt the state
+// written out.
 pub mod batches;
 pub mod previews;
+pub mod sheets;
 pub mod state;
 
 ghost use mathlib.Core.Path.{_≡_};
 ghost use Prim.Native.Nat.{_≤_};
 ghost use lib.ListN.{length};
 ghost use Rattle.scheduler.specs.Runner.{runOf, report};
-ghost use Rattle.report.specs.Filled.{filled};
+ghost use Rattle.pages.specs.Filled.{filled};
 
 // Runs the calls on the sheet, writes the report at the start of `out` and answers its length. Where that is more
 // than there is room for, nothing is written.

@@ -17,7 +17,7 @@ ghost use Rattle.scheduler.specs.Prelude.{Submit, Close, Finish};
 ghost use Rattle.scheduler.specs.Sheet.{readSheet};
 ghost use Rattle.image.specs.Layout.{imageOf};
 ghost use Rattle.image.specs.Calls.{numberOn, imageAfter, checkOn, verdictNumber, verdictOffset, reportOn};
-ghost use Rattle.report.specs.Filled.{filled};
+ghost use Rattle.pages.specs.Filled.{filled};
 
 // Reads a sheet and writes its first state, or the empty state where it is turned down; answers the sheet's number, and
 // in `at` the offset of its fault.

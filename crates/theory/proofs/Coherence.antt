@@ -22,6 +22,7 @@ use Rattle.plan.specs.Histories.{fateIf, fatesIn, doneIn, doneInTurn, holds, de
 use Rattle.plan.specs.Faults.{isTurnedDown}
 use Rattle.scheduler.specs.Coherent.{coherentEvent, coherentRule, coherent}
 use Rattle.scheduler.specs.Answers.{callRows, callFault, accept, call}
+use Rattle.scheduler.specs.Lists.{scheduler, after}
 use Rattle.plan.proofs.Tests.{count-zero, clash, either, and-left, and-right, and-not, all-at, count-more}
 use Rattle.plan.proofs.Tables.{none-applies, no-row}
 use Rattle.plan.proofs.Lines.{fates-same}
@@ -272,6 +273,17 @@ sized-call s c z =
     by-fault s c Sized z (λ h.
     let k = accepted-coherent s c h in
     accept-keeps (coherent-sound s k) (coherent-invariant s z k) c h .listing .shape .sized)
+
+-- so do those of the state after a list, which still passes number 12
+pub after-sized : (s : State) (cs : List Call) → Sized s → Sized (after scheduler s cs)
+unfolding after
+after-sized s [] z = z
+after-sized s (c ∷ cs) z = after-sized (call s c .state) cs (sized-call s c z)
+
+pub after-coherent : (s : State) (cs : List Call) → Sized s → coherent s ≡ true → coherent (after scheduler s cs) ≡ true
+unfolding after
+after-coherent s [] z h = h
+after-coherent s (c ∷ cs) z h = after-coherent (call s c .state) cs (sized-call s c z) (call-coherent s c z h)
 
 -- the answer is a refusal with fault f exactly where f is the first row of the table that applies
 accept-taken : (s : State) (c : Call) → isTurnedDown (accept s c .answer) ≡ false

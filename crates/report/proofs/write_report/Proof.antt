@@ -7,9 +7,9 @@ use mathlib.Core.List.{List}
 use mathlib.Core.Path.{_∙_, ap}
 use lib.ListN.{length, replicate}
 use Rattle.scheduler.specs.Runner.{report}
-use Rattle.report.specs.Filled.{filled}
+use Rattle.pages.specs.Filled.{filled}
 use Rattle.report.proofs.Bounds.{small, report-short}
-use Rattle.report.proofs.Copied.{page-start, page-room, page-size}
+use Rattle.pages.proofs.Copied.{page-start, page-room, page-size}
 use borrow.Author.Needs.{needs}
 use Rattle.report.proofs.write_report.Statement.{statement}
 use Rattle.report.proofs.write_report.Tie as tie

@@ -3,7 +3,7 @@ use mathlib.Core.Path.{_∙_, ap}
 use lib.ListN.{length}
 use Rattle.scheduler.specs.declared.reply.Outcome.{Outcome}
 use Rattle.scheduler.specs.Runner.{report}
-use Rattle.report.specs.Filled.{filled}
+use Rattle.pages.specs.Filled.{filled}
 use borrow.Author.Needs.{needs}
 use Rattle.sinewhopa.proofs.sinewhopa_run.Statement.{statement}
 use Rattle.sinewhopa.proofs.sinewhopa_run.Tie as tie

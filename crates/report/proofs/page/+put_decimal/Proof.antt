@@ -1,7 +1,8 @@
 -- `put_decimal` meets its contract. What falls: the number.
 use native.Mathlib.Omega.{arith}
 use mathlib.Core.Path.{sym}
-use Rattle.report.proofs.Pages.{put-byte, put-then, put-as, decimal-one, decimal-more, length-one, length-more}
+use Rattle.pages.proofs.Pages.{put-byte, put-then, put-as}
+use Rattle.report.proofs.Digits.{decimal-one, decimal-more, length-one, length-more}
 use Rattle.report.proofs.page.+put_decimal.{statement}
 use Prim.Native.Nat.{ℕ, _<_}
 use borrow.Fn.Kinds.{In}

@@ -1,29 +1,29 @@
 -- `put_count` meets its contract.
 use mathlib.Core.Path.{refl}
 use Rattle.scheduler.specs.Runner.{decimal}
-use Rattle.report.proofs.Pages.{put-then}
-use Rattle.report.proofs.Splits.{room-first, room-then}
+use Rattle.pages.proofs.Pages.{put-then, put-after, room-first, room-then}
+use borrow.Author.Needs.{needs}
 use Rattle.report.proofs.page.put_count.Statement.{statement}
 use Rattle.report.proofs.page.put_count.Tie as tie
 
-put-word-requires : tie.Need-put-word-requires
-put-word-requires c κs =
-    room-first
-    (c .before .before .args .word .now)
-    (decimal (c .before .before .args .x)) refl _
-    (c .before .before .pre)
+put-bytes-requires : tie.Need-put-bytes-requires
+put-bytes-requires c κs = search needs
 
 put-decimal-requires : tie.Need-put-decimal-requires
 put-decimal-requires c κs =
-    room-then
-    (c .before .before .before .before .args .word .now)
-    (decimal (c .before .before .before .before .args .x)) refl
-    (c .before .before .before .before .args .at) _
-    (c .before .before .before .before .pre)
-    (c .before .put-word .ensures .ends)
+    let start = c .before .before .before .before in
+    let word = start .args .word .now in
+    let digits = decimal (start .args .x) in
+    let room = room-first word digits refl (start .args .at) (start .pre) in
+    room-then word digits refl (start .args .at) _ (start .pre)
+    (put-after _ _ word room _ _ (c .before .put-bytes .ensures) .ends)
 
 returns : tie.Need-returns
-returns c = put-then (c .before .before .put-word .ensures) (c .put-decimal .ensures)
+returns c =
+    let start = c .before .before .before .before .before in
+    let word = start .args .word .now in
+    let room = room-first word (decimal (start .args .x)) refl (start .args .at) (start .pre) in
+    put-then (put-after _ _ word room _ _ (c .before .before .put-bytes .ensures)) (c .put-decimal .ensures)
 
 pub put-count-spec : {M : Type 1} → statement M
-put-count-spec = tie.close (tie.spec put-word-requires put-decimal-requires returns)
+put-count-spec = tie.close (tie.spec put-bytes-requires put-decimal-requires returns)

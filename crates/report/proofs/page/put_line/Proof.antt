@@ -2,8 +2,7 @@
 use mathlib.Core.List.{[], _∷_, _++_}
 use mathlib.Core.Path.{refl}
 use Rattle.scheduler.specs.Runner.{decimal}
-use Rattle.report.proofs.Pages.{put-then}
-use Rattle.report.proofs.Splits.{room-first, room-then}
+use Rattle.pages.proofs.Pages.{put-then, put-after, room-first, room-then}
 use borrow.Author.Needs.{needs}
 use Rattle.report.proofs.page.put_line.Statement.{statement}
 use Rattle.report.proofs.page.put_line.Tie as tie
@@ -15,21 +14,20 @@ put-count-requires c κs =
     (10 ∷ []) refl _
     (c .before .before .pre)
 
-slice-aggregate-put-word : tie.Need-slice-aggregate-put-word
-slice-aggregate-put-word c = search needs
+slice-aggregate-put-bytes : tie.Need-slice-aggregate-put-bytes
+slice-aggregate-put-bytes c = search needs
 
-put-word-requires : tie.Need-put-word-requires
-put-word-requires c κs =
-    room-then
-    (c .before .before .before .before .before .args .word .now ++ decimal (c .before .before .before .before .before .args .x))
-    (10 ∷ []) refl
-    (c .before .before .before .before .before .args .at) _
-    (c .before .before .before .before .before .pre)
-    (c .before .before .put-count .ensures .ends)
+put-bytes-requires : tie.Need-put-bytes-requires
+put-bytes-requires c κs = search needs
 
 returns : tie.Need-returns
-returns c = put-then (c .before .before .before .put-count .ensures) (c .put-word .ensures)
+returns c =
+    let start = c .before .before .before .before .before .before in
+    let put = c .before .before .before .put-count .ensures in
+    let text = start .args .word .now ++ decimal (start .args .x) in
+    let room = room-then text (10 ∷ []) refl (start .args .at) _ (start .pre) (put .ends) in
+    put-then put (put-after _ _ (10 ∷ []) room _ _ (c .put-bytes .ensures))
 
 pub put-line-spec : {M : Type 1} → statement M
 put-line-spec =
-    tie.close (tie.spec put-count-requires slice-aggregate-put-word put-word-requires returns)
+    tie.close (tie.spec put-count-requires slice-aggregate-put-bytes put-bytes-requires returns)

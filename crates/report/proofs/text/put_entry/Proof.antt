@@ -1,7 +1,8 @@
 -- `put_entry` meets its contract.
 use Rattle.scheduler.specs.Runner.{decimal}
-use Rattle.report.specs.Internal.Written.{fateEnd}
-use Rattle.report.proofs.Splits.{room-first, room-then, put-both, entry-split}
+use Rattle.report.specs.Internal.Texts.{fateEnd}
+use Rattle.pages.proofs.Pages.{room-first, room-then, put-both}
+use Rattle.report.proofs.Splits.{entry-split}
 use borrow.Author.Needs.{needs}
 use Rattle.report.proofs.text.put_entry.Statement.{statement}
 use Rattle.report.proofs.text.put_entry.Tie as tie

@@ -2,7 +2,8 @@
 use native.Mathlib.Omega.{arith}
 use mathlib.Core.List.{_++_}
 use Rattle.scheduler.specs.Runner.{decimal, line}
-use Rattle.report.proofs.Splits.{room-first, room-then, put-both, refusedLead, atLead, fault-is}
+use Rattle.pages.proofs.Pages.{room-first, room-then, put-both}
+use Rattle.report.proofs.Splits.{refusedLead, atLead, fault-is}
 use borrow.Author.Needs.{needs}
 use Rattle.report.proofs.text.put_fault.Statement.{statement}
 use Rattle.report.proofs.text.put_fault.Tie as tie

@@ -1,7 +1,8 @@
 -- `put_head` meets its contract.
 use mathlib.Core.List.{_++_}
 use Rattle.scheduler.specs.Runner.{decimal, line}
-use Rattle.report.proofs.Splits.{room-first, room-then, put-both, eventsLead, rulesLead, head-split}
+use Rattle.pages.proofs.Pages.{room-first, room-then, put-both}
+use Rattle.report.proofs.Splits.{eventsLead, rulesLead, head-split}
 use borrow.Author.Needs.{needs}
 use Rattle.report.proofs.text.put_head.Statement.{statement}
 use Rattle.report.proofs.text.put_head.Tie as tie

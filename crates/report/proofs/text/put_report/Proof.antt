@@ -1,6 +1,6 @@
 -- `put_report` meets its contract.
 use mathlib.Core.Path.{sym}
-use Rattle.report.proofs.Pages.{put-as}
+use Rattle.pages.proofs.Pages.{put-as}
 use Rattle.report.proofs.Splits.{report-admitted, report-faulty}
 use borrow.Author.Needs.{needs}
 use Rattle.report.proofs.text.put_report.Statement.{statement}

@@ -2,8 +2,8 @@
 use mathlib.Core.List.{_++_}
 use mathlib.Core.Path.{refl}
 use Rattle.scheduler.specs.Runner.{decimal, line}
-use Rattle.report.proofs.Pages.{put-then}
-use Rattle.report.proofs.Splits.{room-first, room-then, put-both, heldLead, brokenLead, callsLead, tail-split}
+use Rattle.pages.proofs.Pages.{put-then, room-first, room-then, put-both}
+use Rattle.report.proofs.Splits.{heldLead, brokenLead, callsLead, tail-split}
 use borrow.Author.Needs.{needs}
 use Rattle.report.proofs.text.put_tail.Statement.{statement}
 use Rattle.report.proofs.text.put_tail.Tie as tie

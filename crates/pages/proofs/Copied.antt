@@ -8,8 +8,8 @@ use mathlib.Core.Path.{_≡_, refl, sym, _∙_, ap}
 use borrow.Author.Tests.{le-leb, lt-leb}
 use lib.ListN.{length, getD, take, drop, set}
 use lib.Seq.{length-sets, sets-eq, length-take-le, take-all, take-suc, drop-cons, set-at, append-snoc, take-at}
-use Rattle.report.specs.Filled.{filled}
-use Rattle.report.specs.Internal.Written.{written, Put}
+use Rattle.pages.specs.Filled.{filled}
+use Rattle.pages.specs.Written.{written, Put}
 
 module _ (text out : List ℕ) where
   -- a buffer too short keeps its bytes

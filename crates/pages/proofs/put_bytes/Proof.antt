@@ -1,17 +1,23 @@
--- `put_word` meets its contract.
+-- `put_bytes` meets its contract. The loop's invariant: the first i bytes are put.
 use Prim.Native.Nat.{_+_, _-_, _≤_}
 use native.Mathlib.Omega.{arith}
 use lib.ListN.{length, take}
-use Rattle.report.specs.Internal.Written.{Put}
-use Rattle.report.proofs.Pages.{word-none, word-next, word-all}
-use Rattle.report.proofs.page.put_word.Statement.{statement}
-use Rattle.report.proofs.page.put_word.Tie as tie
+use Rattle.pages.specs.Written.{Put}
+use Rattle.pages.proofs.Pages.{word-none, word-next, word-all, put-no-room, after-put}
+use Rattle.pages.proofs.put_bytes.Statement.{statement}
+use Rattle.pages.proofs.put_bytes.Tie as tie
 
 abbrev Inv-loop : tie.InvT-loop
-Inv-loop page₀ at word i₀ page i = (i ≤ length word) × Put page₀ at (take i word) page (at + i)
+Inv-loop page₀ at bytes i₀ page i = (i ≤ length bytes) × Put page₀ at (take i bytes) page (at + i)
 
 abbrev μ-loop : tie.MeasureT-loop
-μ-loop page₀ at word i₀ page i = length word - i
+μ-loop page₀ at bytes i₀ page i = length bytes - i
+
+returns : tie.Need-returns Inv-loop μ-loop
+returns c = put-no-room _ _ _ (omega arith)
+
+returns-2 : tie.Need-returns-2 Inv-loop μ-loop
+returns-2 c = put-no-room _ _ _ (omega arith)
 
 loop-holds : tie.Need-loop-holds Inv-loop μ-loop
 loop-holds c = (omega arith, word-none _ _)
@@ -37,16 +43,19 @@ loop-again c = (omega arith, word-next _ _ _ _ _ (c .before .loop-test .taken) (
 add-result : tie.Need-add-result Inv-loop μ-loop
 add-result c = omega arith
 
-returns : tie.Need-returns Inv-loop μ-loop
-returns c =
-    word-all _ _ _ _ (c .before .loop .i) (c .loop-test .left) (c .before .loop .inv .0) (c .before .loop .inv .1)
+returns-3 : tie.Need-returns-3 Inv-loop μ-loop
+returns-3 c =
+    after-put _ _ _ (omega arith) _ _
+    (word-all _ _ _ _ (c .before .loop .i) (c .loop-test .left) (c .before .loop .inv .0) (c .before .loop .inv .1))
 
-pub put-word-spec : {M : Type 1} → statement M
-put-word-spec =
+pub put-bytes-spec : {M : Type 1} → statement M
+put-bytes-spec =
     tie.close
     (tie.spec
     Inv-loop
     μ-loop
+    returns
+    returns-2
     loop-holds
     shared-slice-read-page
     add-page
@@ -55,4 +64,4 @@ put-word-spec =
     loop-less
     loop-again
     add-result
-    returns)
+    returns-3)

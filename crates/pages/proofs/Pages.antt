@@ -1,15 +1,13 @@
--- Texts put into a page one after another, a word byte by byte, and a number digit by digit.
-use Prim.Native.Nat.{ℕ, suc, _+_, _/_, _%_, _≤_, _<_}
+-- Texts put into a page one after another, and a text byte by byte.
+use Prim.Native.Nat.{ℕ, suc, _+_, _≤_, _<_}
 use native.Mathlib.Numerals.{add-one}
 use native.Mathlib.Omega.{arith}
 use mathlib.Core.List.{List, [], _∷_, _++_}
-use mathlib.Core.Path.{_≡_, refl, _∙_, ap}
+use mathlib.Core.Path.{_≡_, refl, sym, _∙_, ap}
+use borrow.Author.Tests.{le-leb, lt-leb}
 use lib.ListN.{length, getD, take, set, length-append}
 use lib.Seq.{sets, take-suc, take-all}
-use borrow.Author.Tests.{lt-ltb, le-ltb}
-use Rattle.scheduler.specs.Runner.{digits, decimal}
-use Rattle.scheduler.proofs.Decimals.{digits-enough}
-use Rattle.report.specs.Internal.Written.{written, Put}
+use Rattle.pages.specs.Written.{written, Put, endAfter, pageAfter}
 
 -- stores after stores are the stores of both texts
 sets-more : (page : List ℕ) (at n : ℕ) (a b : List ℕ)
@@ -71,18 +69,45 @@ pub word-all : (word page after : List ℕ) (at i : ℕ)
     → Put page at word after (at + length word)
 word-all word page after at i h k p = let e : i ≡ length word = omega arith in rw e at (put-as (take-all i word h) p)
 
--- a number below 10 is one digit, and any other has the digits of its tenth first
-pub decimal-one : (x : ℕ) → x < 10 → decimal x ≡ (48 + x) ∷ []
-unfolding decimal digits
-decimal-one x h = rw (add-one x, lt-ltb x 10 h, digits)
+-- a text that is two, one after the other
+module _ {text : List ℕ} (a b : List ℕ) (split : text ≡ a ++ b) where
+  -- its length is the sum
+  sizes : length text ≡ length a + length b
+  sizes = ap length split ∙ length-append a b
 
-pub decimal-more : (x : ℕ) → 10 ≤ x → decimal x ≡ decimal (x / 10) ++ ((48 + x % 10) ∷ [])
-unfolding decimal digits
-decimal-more x h = rw (add-one x, le-ltb x 10 h, digits, digits-enough x (x / 10) (omega arith), decimal)
+  -- where it has room, they have
+  pub room-first : (at : ℕ) → at + length text ≤ 320 → at + length a ≤ 320
+  room-first at room = omega (arith, sizes)
 
--- so many digits
-pub length-one : (x : ℕ) → x < 10 → length (decimal x) ≡ 1
-length-one x h = ap length (decimal-one x h)
+  pub room-then : (at n : ℕ) → at + length text ≤ 320 → n ≡ at + length a → n + length b ≤ 320
+  room-then at n room ends = omega (arith, sizes)
 
-pub length-more : (x : ℕ) → 10 ≤ x → length (decimal x) ≡ length (decimal (x / 10)) + 1
-length-more x h = ap length (decimal-more x h) ∙ length-append (decimal (x / 10)) ((48 + x % 10) ∷ [])
+  -- it is put by putting both
+  pub put-both : {page : List ℕ} {at : ℕ} {mid : List ℕ} {n : ℕ} {after : List ℕ} {end : ℕ}
+      → Put page at a mid n
+      → Put mid n b after end
+      → Put page at text after end
+  put-both p q = put-as (sym split) (put-then p q)
+
+-- putting, by whether there is room
+module _ (page : List ℕ) (at : ℕ) (text : List ℕ) where
+  -- what putting comes to
+  abbrev pub After : List ℕ → ℕ → Type 0
+  After after end = (end ≡ endAfter at text) × (after ≡ pageAfter page at text)
+
+  -- none
+  pub put-no-room : 320 < at + length text → After page at
+  unfolding endAfter pageAfter
+  put-no-room h = (rw (lt-leb (at + length text) 320 h), rw (lt-leb (at + length text) 320 h))
+
+  module _ (room : at + length text ≤ 320) (after : List ℕ) (end : ℕ) where
+    pub after-put : Put page at text after end → After after end
+    unfolding endAfter pageAfter
+    after-put p = (rw (le-leb (at + length text) 320 room) (p .ends), rw (le-leb (at + length text) 320 room) (p .bytes))
+
+    pub put-after : After after end → Put page at text after end
+    unfolding endAfter pageAfter
+    put-after h = record {
+      ends = rw (le-leb (at + length text) 320 room) at (h .0);
+      bytes = rw (le-leb (at + length text) 320 room) at (h .1);
+    }

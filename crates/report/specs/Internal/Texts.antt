@@ -1,25 +1,12 @@
--- Text put into a page from an offset on, and the texts of a report's parts.
-use Prim.Native.Nat.{ℕ, _+_}
+-- The texts of a report's parts.
+use Prim.Native.Nat.{ℕ}
 use mathlib.Core.List.{List, _∷_, _++_}
-use mathlib.Core.Path.{_≡_}
-use lib.ListN.{length}
-use lib.Seq.{sets}
 use Rattle.report.specs.Types.{Fate, Held, Refused, SheetFault, Entry, State}
 use Rattle.plan.specs.Plans.{eventCount, ruleCount}
 use Rattle.scheduler.specs.State.{lines}
 use Rattle.plan.specs.Faults.{sheetFaultNumber}
 use Rattle.scheduler.specs.Runner.{heldCount, brokenCount, decimal, fateWord, eventsWord, rulesWord, brokenWord, callsWord, atWord, _␣_, line, historyLines}
 
--- the page with the text's bytes stored one after another
-unfoldable pub written : List ℕ → ℕ → List ℕ → List ℕ
-written page at text = sets page at text
-
--- a text was put at an offset: where it ends, and the page after it
-pub record Put (page : List ℕ) (at : ℕ) (text : List ℕ) (after : List ℕ) (end : ℕ) : Type 0 where
-  pub ends : end ≡ at + length text
-  pub bytes : after ≡ written page at text
-
--- the parts of a report
 abbrev pub fateEnd : Fate → List ℕ
 fateEnd x = 32 ∷ line (fateWord x)
 

@@ -4,9 +4,9 @@ use native.Mathlib.Omega.{arith}
 use mathlib.Core.List.{List, _++_}
 use mathlib.Core.Path.{_≡_, refl, _∙_, ap}
 use lib.ListN.{length, getD, take, drop, set, length-set}
-use Rattle.report.proofs.Copied.{filled-short, copy-next, copy-all}
-use Rattle.report.proofs.fill.Statement.{statement}
-use Rattle.report.proofs.fill.Tie as tie
+use Rattle.pages.proofs.Copied.{filled-short, copy-next, copy-all}
+use Rattle.pages.proofs.fill.Statement.{statement}
+use Rattle.pages.proofs.fill.Tie as tie
 
 abbrev Inv-loop : tie.InvT-loop
 Inv-loop text out₀ i₀ out i = (i ≤ length text) × (out ≡ take i text ++ drop i out₀) × (length out ≡ length out₀)

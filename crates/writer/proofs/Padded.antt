@@ -1,0 +1,149 @@
+-- Plans with blanks past what they declare: how they are made, event after event and rule after rule, and what is read of
+-- them.
+use Prim.Native.Nat.{ℕ, suc, _+_, _-_, _≤_, _<_}
+use native.Mathlib.Nat.{zero-add}
+use native.Mathlib.Omega.{arith}
+use borrow.Author.Tests.{lt-ltb}
+use mathlib.Core.Bool.{true, cond}
+use mathlib.Core.List.{List, [], _∷_, _++_, map}
+use mathlib.Core.Path.{_≡_, refl, sym, _∙_, ap}
+use lib.Dec.{ltb}
+use lib.ListN.{length, getD, set, replicate, length-append, length-map, List·getD-append, List·getD-map}
+use lib.Seq.{set-at, append-snoc}
+use Rattle.plan.specs.Base.{tabulate, readAt, storeAt}
+use Rattle.plan.specs.Plans.{blankEvent, blankRule, eventCount, ruleCount, eventAt, attributesOf, ruleAt}
+use Rattle.plan.specs.Rules.{named, enforceable}
+use Rattle.plan.specs.Records.{addEvent, addRule}
+use Rattle.plan.proofs.Arrays.{read-in}
+use Rattle.plan.proofs.RuleReads.{two-named, triple-named}
+use Rattle.theory.proofs.Observation.{length-tabulate, getD-tabulate, as-tabulate}
+use Rattle.writer.specs.Types.{Event, Rule, Order, Need, Conditional, RuleLine, Plan}
+use Rattle.writer.specs.Writing.{eventsOf, rulesOf, SameDeclared, plain}
+
+-- a list, and blanks up to 16 places
+module _ {A : Type 0} (blank : A) where
+  abbrev padded : List A → List A
+  padded l = l ++ replicate (16 - length l) blank
+
+  -- one more
+  padded-next : (l : List A) (a : A) → length l < 16 → set (padded l) (length l) a ≡ padded (l ++ (a ∷ []))
+  padded-next l a lt =
+      let left : 16 - length l ≡ suc (16 - suc (length l)) = omega arith in
+      let size : length (l ++ (a ∷ [])) ≡ suc (length l) = omega (arith, length-append l (a ∷ [])) in
+      ap (λ (n : ℕ). set (l ++ replicate n blank) (length l) a) left
+      ∙ set-at l blank (replicate (16 - suc (length l)) blank) a (length l) refl
+      ∙ sym (append-snoc l a (replicate (16 - suc (length l)) blank))
+      ∙ ap (λ (n : ℕ). l ++ (a ∷ []) ++ replicate (16 - n) blank) (sym size)
+
+  stored-next : (l : List A) (a : A) → length l < 16 → storeAt 16 (padded l) (length l) a ≡ padded (l ++ (a ∷ []))
+  stored-next l a lt = rw (lt-ltb (length l) 16 lt) (padded-next l a lt)
+
+  -- what is read of it
+  padded-read : (l : List A) (i : ℕ) → length l ≤ 16 → i < length l → readAt 16 (padded l) i blank ≡ getD l i blank
+  padded-read l i few lt =
+      read-in 16 (padded l) i blank (omega arith)
+      ∙ List·getD-append l (replicate (16 - length l) blank) blank i lt
+
+-- a rule in its place
+abbrev pub lineOf : Rule → RuleLine
+lineOf r = record { rule = r }
+
+abbrev pub made : List Event → List RuleLine → Plan
+made es ls = record {
+  events = padded blankEvent es;
+  «event_count» = length es;
+  rules = padded blankRule ls;
+  «rule_count» = length ls;
+}
+
+-- one more event, and one more rule
+pub add-event : (es : List Event) (ls : List RuleLine) (v : Event)
+    → length es < 16
+    → addEvent (made es ls) (v .step) (v .attributes) ≡ made (es ++ (v ∷ [])) ls
+unfolding addEvent
+add-event es ls v lt = λ i. record {
+  events = stored-next blankEvent es v lt i;
+  «event_count» = sym (length-append es (v ∷ [])) i;
+  rules = padded blankRule ls;
+  «rule_count» = length ls;
+}
+
+pub add-rule : (es : List Event) (ls : List RuleLine) (r : Rule)
+    → length ls < 16
+    → addRule (made es ls) r ≡ made es (ls ++ (lineOf r ∷ []))
+unfolding addRule
+add-rule es ls r lt = λ i. record {
+  events = padded blankEvent es;
+  «event_count» = length es;
+  rules = stored-next blankRule ls (lineOf r) lt i;
+  «rule_count» = sym (length-append ls (lineOf r ∷ [])) i;
+}
+
+-- what it declares
+module _ (es : List Event) (ls : List RuleLine) where
+  made-event : (e : ℕ) → length es ≤ 16 → e < length es → eventAt (made es ls) e ≡ getD es e blankEvent
+  made-event e few lt = padded-read blankEvent es e few lt
+
+  made-events : length es ≤ 16 → eventsOf (made es ls) ≡ es
+  made-events few =
+      sym (as-tabulate (length es) es (λ e. eventAt (made es ls) e) blankEvent refl (λ e lt. sym (made-event e few lt)))
+
+made-rules : (es : List Event) (rs : List Rule) → length rs ≤ 16 → rulesOf (made es (map lineOf rs)) ≡ rs
+made-rules es rs few =
+    let ls = map lineOf rs in
+    let size : length ls ≡ length rs = length-map rs lineOf in
+    let said : (i : ℕ) → i < length rs → getD rs i (blankRule .rule) ≡ ruleAt (made es ls) i = λ i lt.
+    ap (λ (l : RuleLine). l .rule)
+    (sym (padded-read blankRule ls i (omega arith) (omega arith) ∙ List·getD-map lineOf rs i (blankRule .rule))) in
+    ap (λ (n : ℕ). tabulate n 0 (λ i. ruleAt (made es ls) i)) size
+    ∙ sym (as-tabulate (length rs) rs (λ i. ruleAt (made es ls) i) (blankRule .rule) refl said)
+
+-- the plain plan is made of what the plan declares
+module _ (p : Plan) where
+  pub plain-made : made (eventsOf p) (map lineOf (rulesOf p)) ≡ plain p
+  plain-made =
+      let m : length (eventsOf p) ≡ eventCount p = length-tabulate (eventCount p) 0 (λ e. eventAt p e) in
+      let n : length (map lineOf (rulesOf p)) ≡ ruleCount p =
+      length-map (rulesOf p) lineOf ∙ length-tabulate (ruleCount p) 0 (λ i. ruleAt p i) in
+      λ i. record {
+        events = eventsOf p ++ replicate (16 - m i) blankEvent;
+        «event_count» = m i;
+        rules = map lineOf (rulesOf p) ++ replicate (16 - n i) blankRule;
+        «rule_count» = n i;
+      }
+
+  module _ (few-events : eventCount p ≤ 16) (few-rules : ruleCount p ≤ 16) where
+    count : length (eventsOf p) ≡ eventCount p
+    count = length-tabulate (eventCount p) 0 (λ e. eventAt p e)
+
+    -- it declares the same
+    pub plain-same : SameDeclared (plain p) p
+    plain-same = record {
+      events =
+          ap eventsOf (sym plain-made)
+          ∙ made-events (eventsOf p) (map lineOf (rulesOf p)) (omega (arith, count));
+      rules =
+          ap rulesOf (sym plain-made)
+          ∙ made-rules (eventsOf p) (rulesOf p) (omega (arith, length-tabulate (ruleCount p) 0 (λ i. ruleAt p i)));
+    }
+
+    -- an event of it has its attributes
+    pub plain-attributes : (ls : List RuleLine) (e : ℕ)
+        → e < eventCount p
+        → attributesOf (made (eventsOf p) ls) e ≡ attributesOf p e
+    plain-attributes ls e lt =
+        ap (λ (v : Event). v .attributes)
+        (made-event (eventsOf p) ls e (omega (arith, count)) (omega (arith, count)) ∙ getD-tabulate (eventCount p) 0 (λ e. eventAt p e) e blankEvent lt ∙ ap (λ (k : ℕ). eventAt p k) (zero-add e))
+
+-- a rule can be enforced where the events that it names have the same attributes
+pub same-enforced : (p q : Plan) (n : ℕ)
+    → ((e : ℕ) → e < n → attributesOf q e ≡ attributesOf p e)
+    → (r : Rule)
+    → named n r ≡ true
+    → enforceable q r ≡ enforceable p r
+unfolding enforceable named
+same-enforced p q n same (Order a b) h = let t = two-named n a b _ h in rw (same a (t .0), same b (t .1))
+same-enforced p q n same (Need a b) h = let t = two-named n a b _ h in rw (same a (t .0), same b (t .1))
+same-enforced p q n same (Conditional a b c) h =
+    let t = triple-named n a b c h in
+    rw (same a (t .first), same b (t .second), same c (t .third))

@@ -1,0 +1,262 @@
+-- Reading what was written: record after record, events first, then rules, then the end record.
+use Prim.Native.Nat.{ℕ, suc, _+_, _-_, _≤_, _<_}
+use native.Mathlib.Nat.{suc-add, zero-add}
+use native.Mathlib.Omega.{arith}
+use borrow.Author.Tests.{not-true, le-ltb}
+use mathlib.Core.Bool.{true, false, not}
+use mathlib.Core.List.{List, [], _∷_, _++_, map, append-assoc, append-nil}
+use mathlib.Core.Option.{none}
+use mathlib.Core.Path.{_≡_, refl, sym, _∙_, ap}
+use lib.Dec.{eqb, ltb}
+use lib.ListN.{length, getD, drop, length-append, length-drop}
+use lib.Seq.{getD-drop, drop-drop, append-snoc, drop-append-seam}
+use Rattle.plan.specs.Plans.{blankEvent, blankRule, emptyPlan, eventCount, ruleCount, stepOf, attributesOf, eventAt, ruleAt}
+use Rattle.plan.specs.Rules.{badStep, badAttributes, named, enforceable, soundEvent, soundRule}
+use Rattle.plan.specs.Records.{bodyLength, recordAt, ruleOf, addEvent, addRule, declare, recordFault}
+use Rattle.plan.specs.Sheets.{PlanReading, whole, readFrom, readPlan, ending, sheetPlan}
+use Rattle.plan.proofs.Tests.{and-left, and-right}
+use Rattle.plan.proofs.FaultlessRecords.{Faultless, no-fault}
+use Rattle.plan.proofs.SheetReading.{read-enough}
+use Rattle.scheduler.specs.State.{firstState}
+use Rattle.scheduler.specs.Coherent.{coherent}
+use Rattle.scheduler.specs.Sheet.{admitted, readSheet}
+use Rattle.theory.proofs.SoundPlans.{Sound, rule-named, rule-enforced}
+use Rattle.theory.proofs.Coherence.{coherent-sound}
+use Rattle.theory.proofs.Observation.{length-tabulate, getD-tabulate}
+use Rattle.writer.specs.Types.{Event, Rule, Order, Need, Conditional, RuleLine, Plan, Record, State}
+use Rattle.writer.specs.Writing.{eventsOf, rulesOf, eventRecord, ruleRecord, joined, sheetBytes, sheetLength, plain, SameDeclared, ReadBack}
+use Rattle.writer.proofs.Joining.{joined-none, joined-more, sheet-parts, sheet-short}
+use Rattle.writer.proofs.Padded.{lineOf, made, add-event, add-rule, plain-made, plain-same, plain-attributes, same-enforced}
+
+-- the record at the start of some bytes
+abbrev front : List ℕ → Record
+front l = record { kind = getD l 0 0; x = getD l 1 0; y = getD l 2 0; z = getD l 3 0 }
+
+-- an event that a sheet would not be turned down for
+pub record Fine (v : Event) : Type 0 where
+  pub step : badStep (v .step) ≡ false
+  pub attributes : badAttributes (v .attributes) ≡ false
+
+-- the rows for a record of kind 1, of kind 2, 3 or 4, and of kind 5
+module _ (p : Plan) (len at : ℕ) (events : eventCount p ≤ 16) (rules : ruleCount p ≤ 16) where
+  event-faultless : (v : Event) (more : List ℕ)
+      → at + 3 ≤ len
+      → eventCount p < 16
+      → Fine v
+      → Faultless p len at (front (eventRecord v ++ more))
+  event-faultless v more inside room fine = record {
+    inside = omega arith;
+    low = λ e. omega (arith, e);
+    high = omega arith;
+    whole = omega arith;
+    events = omega arith;
+    rules = omega arith;
+    step = fine .step;
+    attributes = fine .attributes;
+    names = refl;
+    enforced = refl;
+  }
+
+  end-faultless : at + 1 ≤ len → Faultless p len at (front (5 ∷ []))
+  end-faultless inside = record {
+    inside = omega arith;
+    low = λ e. omega (arith, e);
+    high = omega arith;
+    whole = omega arith;
+    events = omega arith;
+    rules = omega arith;
+    step = refl;
+    attributes = refl;
+    names = refl;
+    enforced = refl;
+  }
+
+  rule-faultless : (r : Rule) (more : List ℕ)
+      → at + length (ruleRecord r) ≤ len
+      → ruleCount p < 16
+      → named (eventCount p) r ≡ true
+      → enforceable p r ≡ true
+      → Faultless p len at (front (ruleRecord r ++ more))
+  unfolding ruleOf
+  rule-faultless (Order a b) more inside room n e = record {
+    inside = omega arith;
+    low = λ z. omega (arith, z);
+    high = omega arith;
+    whole = omega arith;
+    events = omega arith;
+    rules = omega arith;
+    step = refl;
+    attributes = refl;
+    names = ap not n;
+    enforced = ap not e;
+  }
+  rule-faultless (Need a b) more inside room n e = record {
+    inside = omega arith;
+    low = λ z. omega (arith, z);
+    high = omega arith;
+    whole = omega arith;
+    events = omega arith;
+    rules = omega arith;
+    step = refl;
+    attributes = refl;
+    names = ap not n;
+    enforced = ap not e;
+  }
+  rule-faultless (Conditional a b c) more inside room n e = record {
+    inside = omega arith;
+    low = λ z. omega (arith, z);
+    high = omega arith;
+    whole = omega arith;
+    events = omega arith;
+    rules = omega arith;
+    step = refl;
+    attributes = refl;
+    names = ap not n;
+    enforced = ap not e;
+  }
+
+-- what a rule's record says: the rule, which is declared, and where the next record begins
+rule-declared : (p : Plan) (r : Rule) (more : List ℕ) → declare p (front (ruleRecord r ++ more)) ≡ addRule p r
+unfolding declare ruleOf
+rule-declared p (Order a b) more = refl
+rule-declared p (Need a b) more = refl
+rule-declared p (Conditional a b c) more = refl
+
+event-declared : (p : Plan) (v : Event) (more : List ℕ)
+    → declare p (front (eventRecord v ++ more)) ≡ addEvent p (v .step) (v .attributes)
+unfolding declare
+event-declared p v more = refl
+
+rule-goes-on : (r : Rule) (more : List ℕ) → eqb (front (ruleRecord r ++ more) .kind) 5 ≡ false
+rule-goes-on (Order a b) more = refl
+rule-goes-on (Need a b) more = refl
+rule-goes-on (Conditional a b c) more = refl
+
+rule-size : (r : Rule) (more : List ℕ) → 1 + bodyLength (front (ruleRecord r ++ more) .kind) ≡ length (ruleRecord r)
+rule-size (Order a b) more = refl
+rule-size (Need a b) more = refl
+rule-size (Conditional a b c) more = refl
+
+-- reading from an offset of some bytes on
+module _ (b : List ℕ) where
+  front-at : (at : ℕ) (l : List ℕ) → drop at b ≡ l → recordAt b at ≡ front l
+  front-at at l h =
+      let zeroth : getD b at 0 ≡ getD (drop at b) 0 0 =
+      ap (λ (k : ℕ). getD b k 0) (omega arith) ∙ sym (getD-drop at b 0 0) in
+      (λ i. record {
+        kind = zeroth i;
+        x = sym (getD-drop at b 1 0) i;
+        y = sym (getD-drop at b 2 0) i;
+        z = sym (getD-drop at b 3 0) i;
+      })
+      ∙ ap front h
+
+  -- past the bytes of one record
+  pub drop-next : (at : ℕ) (one more : List ℕ) (next : ℕ)
+      → drop at b ≡ one ++ more
+      → next ≡ at + length one
+      → drop next b ≡ more
+  drop-next at one more next h e =
+      ap (λ (k : ℕ). drop k b) e
+      ∙ sym (drop-drop (length one) at b)
+      ∙ ap (drop (length one)) h
+      ∙ drop-append-seam one more
+
+  -- they stand in the bytes
+  inside-at : (at : ℕ) (one more : List ℕ) → drop at b ≡ one ++ more → 0 < length one → at + length one ≤ length b
+  inside-at at one more h some =
+      omega (arith, sym (length-drop at b) ∙ ap length h ∙ length-append one more)
+
+  -- a record without a fault, before the last: it is declared, and the next one is read
+  read-on : (n at : ℕ) (p : Plan) (v : Record)
+      → recordAt b at ≡ v
+      → Faultless p (length b) at v
+      → eqb (v .kind) 5 ≡ false
+      → readFrom (suc n) b at p ≡ readFrom n b (at + 1 + bodyLength (v .kind)) (declare p v)
+  unfolding readFrom
+  read-on n at p v h c k =
+      let none-here : recordFault p (length b) at (recordAt b at) ≡ none =
+      ap (recordFault p (length b) at) h ∙ no-fault p (length b) at v c in
+      let going : eqb (getD b at 0) 5 ≡ false = ap (λ (w : Record). eqb (w .kind) 5) h ∙ k in
+      rw (none-here, going, readFrom)
+      (ap (λ (w : Record). readFrom n b (at + 1 + bodyLength (w .kind)) (declare p w)) h)
+
+  -- the end record
+  pub read-end : (n at : ℕ) (p : Plan)
+      → eventCount p ≤ 16
+      → ruleCount p ≤ 16
+      → drop at b ≡ 5 ∷ []
+      → readFrom (suc n) b at p ≡ whole p (at + 1)
+  unfolding readFrom
+  read-end n at p few-events few-rules h =
+      let here = front-at at (5 ∷ []) h in
+      let inside = inside-at at (5 ∷ []) [] h (omega arith) in
+      let none-here : recordFault p (length b) at (recordAt b at) ≡ none =
+      ap (recordFault p (length b) at) here
+      ∙ no-fault p (length b) at (front (5 ∷ [])) (end-faultless p (length b) at few-events few-rules (omega arith)) in
+      let ends : eqb (getD b at 0) 5 ≡ true = ap (λ (w : Record). eqb (w .kind) 5) here in
+      rw (none-here, ends, readFrom)
+
+  -- the events' records
+  pub read-events : (vs es : List Event) (n at : ℕ) (more : List ℕ)
+      → drop at b ≡ joined eventRecord vs ++ more
+      → length es + length vs ≤ 16
+      → ((k : ℕ) → k < length vs → Fine (getD vs k blankEvent))
+      → readFrom (length vs + n) b at (made es [])
+      ≡ readFrom n b (at + length (joined eventRecord vs)) (made (es ++ vs) [])
+  unfolding joined
+  read-events [] es n at more h few fine =
+      λ i. readFrom (zero-add n i) b (omega-same i) (made (sym (append-nil es) i) [])
+    where
+      omega-same : at ≡ at + 0
+      omega-same = omega arith
+  read-events (v ∷ vs) es n at more h few fine =
+      let rest = joined eventRecord vs ++ more in
+      let split = h ∙ append-assoc (eventRecord v) (joined eventRecord vs) more in
+      let inside = inside-at at (eventRecord v) rest split (omega arith) in
+      let p = made es [] in
+      let size : length (es ++ (v ∷ [])) ≡ suc (length es) = omega (arith, length-append es (v ∷ [])) in
+      ap (λ (k : ℕ). readFrom k b at p) (suc-add (length vs) n)
+      ∙ read-on (length vs + n) at p (front (eventRecord v ++ rest)) (front-at at (eventRecord v ++ rest) split)
+      (event-faultless p (length b) at (omega arith) (omega arith) v rest inside (omega arith) (fine 0 (omega arith)))
+      refl
+      ∙ ap (λ (q : Plan). readFrom (length vs + n) b (at + 1 + 2) q) (event-declared p v rest ∙ add-event es [] v (omega arith))
+      ∙ read-events vs (es ++ (v ∷ [])) n (at + 1 + 2) more (drop-next at (eventRecord v) rest (at + 1 + 2) split (omega arith)) (omega arith) (λ k lt. fine (suc k) (omega arith))
+      ∙ (λ i. readFrom n b (later i) (made (append-snoc es v vs i) []))
+    where
+      later : at + 1 + 2 + length (joined eventRecord vs) ≡ at + length (eventRecord v ++ joined eventRecord vs)
+      later = omega arith
+
+  -- the rules' records, of rules that name events of the plan and can be enforced
+  pub read-rules : (rs : List Rule) (es : List Event) (ls : List RuleLine) (n at : ℕ) (more : List ℕ)
+      → drop at b ≡ joined ruleRecord rs ++ more
+      → length es ≤ 16
+      → length ls + length rs ≤ 16
+      → ((k : ℕ) → k < length rs → named (length es) (getD rs k (blankRule .rule)) ≡ true)
+      → ((k : ℕ) (ms : List RuleLine) → k < length rs → enforceable (made es ms) (getD rs k (blankRule .rule)) ≡ true)
+      → readFrom (length rs + n) b at (made es ls)
+      ≡ readFrom n b (at + length (joined ruleRecord rs)) (made es (ls ++ map lineOf rs))
+  unfolding joined
+  read-rules [] es ls n at more h few-events few names holds =
+      λ i. readFrom (zero-add n i) b (omega-same i) (made es (sym (append-nil ls) i))
+    where
+      omega-same : at ≡ at + 0
+      omega-same = omega arith
+  read-rules (r ∷ rs) es ls n at more h few-events few names holds =
+      let rest = joined ruleRecord rs ++ more in
+      let split = h ∙ append-assoc (ruleRecord r) (joined ruleRecord rs) more in
+      let size = rule-size r rest in
+      let inside = inside-at at (ruleRecord r) rest split (omega arith) in
+      let p = made es ls in
+      let next = at + 1 + bodyLength (front (ruleRecord r ++ rest) .kind) in
+      ap (λ (k : ℕ). readFrom k b at p) (suc-add (length rs) n)
+      ∙ read-on (length rs + n) at p (front (ruleRecord r ++ rest)) (front-at at (ruleRecord r ++ rest) split)
+      (rule-faultless p (length b) at (omega arith) (omega arith) r rest inside (omega arith) (names 0 (omega arith)) (holds 0 ls (omega arith)))
+      (rule-goes-on r rest)
+      ∙ ap (λ (q : Plan). readFrom (length rs + n) b next q) (rule-declared p r rest ∙ add-rule es ls r (omega arith))
+      ∙ read-rules rs es (ls ++ (lineOf r ∷ [])) n next more (drop-next at (ruleRecord r) rest next split (omega arith)) few-events (omega (arith, length-append ls (lineOf r ∷ []))) (λ k lt. names (suc k) (omega arith)) (λ k ms lt. holds (suc k) ms (omega arith))
+      ∙ (λ i. readFrom n b (later i) (made es (append-snoc ls (lineOf r) (map lineOf rs) i)))
+    where
+      later : at + 1 + bodyLength (front (ruleRecord r ++ (joined ruleRecord rs ++ more)) .kind) + length (joined ruleRecord rs)
+          ≡ at + length (ruleRecord r ++ joined ruleRecord rs)
+      later = omega (arith, rule-size r (joined ruleRecord rs ++ more), length-append (ruleRecord r) (joined ruleRecord rs))

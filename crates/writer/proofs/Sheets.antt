@@ -1,0 +1,149 @@
+-- The theorems on written sheets: what is written is admitted with the same events and rules and written again as the same
+-- bytes; what declares the same is written alike, and only that; a record of kind 6 declares what four of kind 1 do.
+use Prim.Native.Nat.{ℕ, suc, _+_, _≤_, _<_}
+use native.Mathlib.Nat.{zero-add}
+use native.Mathlib.Omega.{arith}
+use borrow.Author.Tests.{not-true, le-ltb}
+use mathlib.Core.Bool.{true, false, not}
+use mathlib.Core.List.{List, [], _∷_, _++_, map}
+use mathlib.Core.Path.{_≡_, refl, sym, _∙_, ap}
+use lib.Dec.{ltb}
+use lib.ListN.{length, getD, length-append, length-map}
+use Rattle.plan.specs.Plans.{blankEvent, blankRule, emptyPlan, eventCount, ruleCount, eventAt, ruleAt, stepOf, attributesOf}
+use Rattle.plan.specs.Fates.{blankStanding}
+use Rattle.plan.specs.Rules.{badStep, badAttributes, named, enforceable, soundEvent}
+use Rattle.plan.specs.Records.{addEvent, addEvents, declare}
+use Rattle.plan.specs.Sheets.{PlanReading, whole, readFrom, readPlan, ending, sheetPlan}
+use Rattle.plan.proofs.Arrays.{read-blank}
+use Rattle.plan.proofs.Tests.{and-left, and-right}
+use Rattle.plan.proofs.SheetReading.{read-enough}
+use Rattle.scheduler.specs.State.{firstState}
+use Rattle.scheduler.specs.Coherent.{coherent}
+use Rattle.scheduler.specs.Sheet.{admitted, readSheet}
+use Rattle.theory.proofs.SoundPlans.{Sound, rule-named, rule-enforced}
+use Rattle.theory.proofs.Coherence.{coherent-sound}
+use Rattle.theory.proofs.Observation.{length-tabulate, getD-tabulate}
+use Rattle.writer.specs.Types.{Standing, Event, Rule, RuleLine, Plan, Record, State, Reading}
+use Rattle.writer.specs.Writing.{eventsOf, rulesOf, eventRecord, ruleRecord, joined, sheetBytes, sheetLength, plain, SameDeclared, ReadBack}
+use Rattle.writer.proofs.Joining.{sheet-parts, sheet-short}
+use Rattle.writer.proofs.Padded.{lineOf, made, plain-made, plain-same, plain-attributes, same-enforced}
+use Rattle.writer.proofs.ReadingBack.{Fine, drop-next, read-events, read-rules, read-end}
+
+-- what declares the same is written alike
+pub written-alike : (p q : Plan) → SameDeclared p q → sheetBytes p ≡ sheetBytes q
+unfolding sheetBytes
+written-alike p q same = λ i. joined eventRecord (same .events i) ++ joined ruleRecord (same .rules i) ++ (5 ∷ [])
+
+-- a sound plan's sheet
+module _ (p : Plan) (sd : Sound p) where
+  abbrev es : List Event
+  es = eventsOf p
+
+  abbrev rs : List Rule
+  rs = rulesOf p
+
+  event-count : length es ≡ eventCount p
+  event-count = length-tabulate (eventCount p) 0 (λ e. eventAt p e)
+
+  rule-count : length rs ≡ ruleCount p
+  rule-count = length-tabulate (ruleCount p) 0 (λ i. ruleAt p i)
+
+  -- each of its events and rules
+  event-said : (k : ℕ) → k < length es → getD es k blankEvent ≡ eventAt p k
+  event-said k lt =
+      getD-tabulate (eventCount p) 0 (λ e. eventAt p e) k blankEvent (omega (arith, event-count))
+      ∙ ap (λ (e : ℕ). eventAt p e) (zero-add k)
+
+  rule-said : (k : ℕ) → k < length rs → getD rs k (blankRule .rule) ≡ ruleAt p k
+  rule-said k lt =
+      getD-tabulate (ruleCount p) 0 (λ i. ruleAt p i) k (blankRule .rule) (omega (arith, rule-count))
+      ∙ ap (λ (i : ℕ). ruleAt p i) (zero-add k)
+
+  event-fine : (k : ℕ) → k < length es → Fine (getD es k blankEvent)
+  unfolding soundEvent
+  event-fine k lt =
+      let said = event-said k lt in
+      let sound = sd .event k (omega (arith, event-count)) in
+      record {
+        step =
+            ap (λ (v : Event). badStep (v .step)) said
+            ∙ not-true (badStep (stepOf p k)) (and-left (not (badStep (stepOf p k))) (not (badAttributes (attributesOf p k))) sound);
+        attributes =
+            ap (λ (v : Event). badAttributes (v .attributes)) said
+            ∙ not-true (badAttributes (attributesOf p k)) (and-right (not (badStep (stepOf p k))) (not (badAttributes (attributesOf p k))) sound);
+      }
+
+  rule-names : (k : ℕ) → k < length rs → named (length es) (getD rs k (blankRule .rule)) ≡ true
+  rule-names k lt =
+      (λ i. named (event-count i) (rule-said k lt i)) ∙ rule-named sd k (omega (arith, rule-count))
+
+  rule-holds : (k : ℕ) (ls : List RuleLine) → k < length rs → enforceable (made es ls) (getD rs k (blankRule .rule)) ≡ true
+  rule-holds k ls lt =
+      let below : k < ruleCount p = omega (arith, rule-count) in
+      ap (enforceable (made es ls)) (rule-said k lt)
+      ∙ same-enforced p (made es ls) (eventCount p) (plain-attributes p (sd .few-events) (sd .few-rules) ls) (ruleAt p k) (rule-named sd k below)
+      ∙ rule-enforced sd k below
+
+  abbrev bytes : List ℕ
+  bytes = sheetBytes p
+
+  -- record after record
+  sheet-plan : readPlan bytes ≡ whole (plain p) (sheetLength p)
+  sheet-plan =
+      let evs = joined eventRecord es in
+      let rls = joined ruleRecord rs in
+      let ls = map lineOf rs in
+      let enough = length es + (length rs + suc (length bytes)) in
+      let middle = drop-next bytes 0 evs (rls ++ (5 ∷ [])) (0 + length evs) (sheet-parts p) refl in
+      let last = drop-next bytes (0 + length evs) rls (5 ∷ []) (0 + length evs + length rls) middle refl in
+      let size : 0 + length evs + length rls + 1 ≡ length bytes =
+      omega (arith, ap length (sheet-parts p), length-append evs (rls ++ (5 ∷ [])), length-append rls (5 ∷ [])) in
+      sym (read-enough enough bytes (omega arith))
+      ∙ read-events bytes es [] (length rs + suc (length bytes)) 0 (rls ++ (5 ∷ [])) (sheet-parts p) (omega (arith, event-count, sd .few-events)) event-fine
+      ∙ read-rules bytes rs es [] (suc (length bytes)) (0 + length evs) (5 ∷ []) middle (omega (arith, event-count, sd .few-events)) (omega (arith, rule-count, sd .few-rules)) rule-names rule-holds
+      ∙ read-end bytes (length bytes) (0 + length evs + length rls) (made es ls) (omega (arith, event-count, sd .few-events)) (omega (arith, length-map rs lineOf, rule-count, sd .few-rules)) last
+      ∙ (λ i. whole (plain-made p i) (size i))
+
+  sheet-reads : readSheet bytes ≡ admitted (firstState (plain p))
+  unfolding readSheet sheetPlan ending
+  sheet-reads =
+      rw (sheet-plan, ending, le-ltb (length bytes) (length bytes) (omega arith), readSheet)
+
+-- a state that passes number 12
+pub read-back : (s : State) → coherent s ≡ true → ReadBack s
+read-back s h =
+    let sd = coherent-sound s h in
+    let same = plain-same (s .plan) (sd .few-events) (sd .few-rules) in
+    record {
+      reads = sheet-reads (s .plan) sd;
+      same = same;
+      again = written-alike (plain (s .plan)) (s .plan) same;
+      all-open = λ e. ap (λ (x : Standing). x .fate) (read-blank 16 blankStanding e);
+      short = sheet-short (s .plan) (sd .few-events) (sd .few-rules);
+    }
+
+-- what is written alike declares the same: nothing is lost
+pub alike-declared : (s t : State)
+    → coherent s ≡ true
+    → coherent t ≡ true
+    → sheetBytes (s .plan) ≡ sheetBytes (t .plan)
+    → SameDeclared (s .plan) (t .plan)
+alike-declared s t h k same =
+    let one = read-back s h in
+    let other = read-back t k in
+    let plans : plain (s .plan) ≡ plain (t .plan) =
+    ap (λ (r : Reading). r .state .plan) (sym (one .reads) ∙ ap readSheet same ∙ other .reads) in
+    record {
+      events = sym (one .same .events) ∙ ap eventsOf plans ∙ other .same .events;
+      rules = sym (one .same .rules) ∙ ap rulesOf plans ∙ other .same .rules;
+    }
+
+-- a record of kind 6 declares what four records of kind 1 on its step do
+abbrev pub kindOne : ℕ → ℕ → Record
+kindOne k a = record { kind = 1; x = k; y = a; z = 0 }
+
+pub four-events : (p : Plan) (k y z : ℕ)
+    → declare p (record { kind = 6; x = k; y = y; z = z })
+    ≡ declare (declare (declare (declare p (kindOne k 7)) (kindOne k 0)) (kindOne k 6)) (kindOne k 1)
+unfolding declare addEvents
+four-events p k y z = refl

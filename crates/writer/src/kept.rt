@@ -1,0 +1,26 @@
+// The sheet of a kept state, 384 bytes, which are only read.
+use super::write::write_sheet;
+use image::read::state_in;
+use image::test::is_image;
+use plan::answer::answer_number;
+ghost use mathlib.Core.Path.{_≡_};
+ghost use lib.ListN.{length};
+ghost use Rattle.writer.specs.Kept.{writeNumberOn, bufferOn, needOn};
+
+// Writes the state's sheet to the start of the buffer and its length into `need`, and answers 0; or answers 12 or 14, and
+// the buffer keeps its bytes.
+pub fn write_sheet_on(image: &[u8; 384], out: &mut [u8], need: &mut usize) -> u8
+    ensures number { λ r. ⌜ r ≡ writeNumberOn (now (image .entry)) (length (now (out .entry))) ⌝ }
+    ensures bytes { λ _. ⌜ now (out .exit) ≡ bufferOn (now (image .entry)) (now (out .entry)) ⌝ }
+    ensures need { λ _. ⌜ now (need .exit) ≡ needOn (now (image .entry)) ⌝ }
+{
+    if !is_image(image) {
+        *need = 0;
+        return 12;
+    }
+    let state = state_in(image);
+    let reply = write_sheet(state, out);
+    *need = reply.length;
+    let answer = reply.answer;
+    answer_number(answer) as u8
+}

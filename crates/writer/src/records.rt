@@ -1,0 +1,70 @@
+// A sheet's records, put into a page one after another. Each function answers where they end.
+use pages::MOST;
+use pages::put_bytes;
+use plan::event::Event;
+use plan::plan::Plan;
+use plan::rule::Rule;
+use plan::rule::RuleLine;
+ghost use Prim.Native.Nat.{_+_, _*_, _≤_};
+ghost use Rattle.plan.specs.Plans.{eventCount, ruleCount};
+ghost use Rattle.pages.specs.Written.{Put};
+ghost use Rattle.writer.specs.Writing.{ruleRecord, sheetBytes};
+ghost use Rattle.writer.specs.Internal.Records.{eventRecords, ruleRecords};
+
+// The events, the rules and the end record.
+pub(crate) fn put_sheet(page: &mut [u8; MOST], plan: Plan) -> usize
+    requires events { ⌜ eventCount plan ≤ 16 ⌝ }
+    requires rules { ⌜ ruleCount plan ≤ 16 ⌝ }
+    ensures { λ r. ⌜ Put (now (page .entry)) 0 (sheetBytes plan) (now (page .exit)) r ⌝ }
+{
+    let events = plan.events;
+    let rules = plan.rules;
+    let next = put_events(page, events, plan.event_count);
+    let then = put_rules(page, next, rules, plan.rule_count);
+    put_bytes(page, then, b"\x05")
+}
+
+// A record of kind 1 for each event.
+fn put_events(page: &mut [u8; MOST], events: [Event; 16], count: u8) -> usize
+    requires { ⌜ count ≤ 16 ⌝ }
+    ensures { λ r. ⌜ Put (now (page .entry)) 0 (eventRecords events count) (now (page .exit)) r ⌝ }
+{
+    let mut next: usize = 0;
+    let mut i: u8 = 0;
+    while i < count {
+        let event = events[i as usize];
+        let bytes = [1, event.step, event.attributes];
+        next = put_bytes(page, next, &bytes);
+        i += 1;
+    }
+    next
+}
+
+// A record of kind 2, 3 or 4 for each rule.
+fn put_rules(page: &mut [u8; MOST], at: usize, rules: [RuleLine; 16], count: u8) -> usize
+    requires few { ⌜ count ≤ 16 ⌝ }
+    requires room { ⌜ at ≤ 48 ⌝ }
+    ensures { λ r. ⌜ Put (now (page .entry)) at (ruleRecords rules count) (now (page .exit)) r ⌝ }
+{
+    let mut next = at;
+    let mut i: u8 = 0;
+    while i < count {
+        let line = rules[i as usize];
+        let rule = line.rule;
+        next = put_rule(page, next, rule);
+        i += 1;
+    }
+    next
+}
+
+// A rule's record.
+fn put_rule(page: &mut [u8; MOST], at: usize, rule: Rule) -> usize
+    requires { ⌜ at ≤ 300 ⌝ }
+    ensures { λ r. ⌜ Put (now (page .entry)) at (ruleRecord rule) (now (page .exit)) r ⌝ }
+{
+    match rule {
+        Rule::Order(a, b) => put_bytes(page, at, &[2, a, b]),
+        Rule::Need(a, b) => put_bytes(page, at, &[3, a, b]),
+        Rule::Conditional(a, b, c) => put_bytes(page, at, &[4, a, b, c]),
+    }
+}
