@@ -3,12 +3,12 @@
 
 use peer::cases::{sheet_of, CASES};
 use peer::compare::{seed, SEED};
-use peer::images::brought::{leftovers, records, scheduler};
+use peer::images::brought::{as_sheet, leftovers, scheduler};
 use peer::images::layout::{first, Image, ATTRIBUTES, EVENTS, LINES, RULES, STEP};
 use peer::images::runs::led_to;
 use peer::images::sheets::{agree, compare, reads_back, written_alike, Write, COUNT, LIBRARY};
 use peer::library::{raw, STATE_LEN};
-use peer::peer::sheet::{records as split, Sheet};
+use peer::peer::sheet::{records, Sheet};
 use peer::peer::write::LONGEST;
 use peer::random::Random;
 
@@ -48,7 +48,7 @@ fn put(image: &Image, sheet: &[u8], out: &mut [u8]) -> (u8, usize) {
 
 /// Declares four events in one record where they are those of a record of kind 6.
 fn joins_fours(image: &mut Image, out: &mut [u8]) -> (u8, usize) {
-    let sheet = records(image);
+    let sheet = as_sheet(image);
     let mut joined = Vec::new();
     let mut rest = sheet.as_slice();
     while let [1, step, sum, after @ ..] = rest {
@@ -69,7 +69,7 @@ fn joins_fours(image: &mut Image, out: &mut [u8]) -> (u8, usize) {
 }
 
 fn puts_rules_first(image: &mut Image, out: &mut [u8]) -> (u8, usize) {
-    let sheet = records(image);
+    let sheet = as_sheet(image);
     let (events, rest) = sheet.split_at(usize::from(image[EVENTS]) * 3);
     let (end, rules) = rest.split_last().expect("an end");
     put(image, &[rules, events, &[*end]].concat(), out)
@@ -77,9 +77,9 @@ fn puts_rules_first(image: &mut Image, out: &mut [u8]) -> (u8, usize) {
 
 /// Names the lower trigger of a conditional first.
 fn sorts_triggers(image: &mut Image, out: &mut [u8]) -> (u8, usize) {
-    let sheet = records(image);
+    let sheet = as_sheet(image);
     let mut sorted: Vec<Vec<u8>> = Vec::new();
-    for record in split(&sheet) {
+    for record in records(&sheet) {
         let mut record = record.to_vec();
         if record[0] == 4 {
             record[1..3].sort_unstable();
@@ -95,11 +95,11 @@ fn writes_every_place(image: &mut Image, out: &mut [u8]) -> (u8, usize) {
     let mut full = *image;
     full[EVENTS] = 16;
     full[RULES] = 16;
-    put(image, &records(&full), out)
+    put(image, &as_sheet(&full), out)
 }
 
 fn tests_length_first(image: &mut Image, out: &mut [u8]) -> (u8, usize) {
-    let need = records(image).len();
+    let need = as_sheet(image).len();
     if out.len() < need {
         return (14, need);
     }
@@ -109,7 +109,7 @@ fn tests_length_first(image: &mut Image, out: &mut [u8]) -> (u8, usize) {
 fn takes_one_too_few(image: &mut Image, out: &mut [u8]) -> (u8, usize) {
     let (number, need) = raw::write_sheet(image, out);
     if (number, out.len() + 1) == (14, need) {
-        out.copy_from_slice(&records(image)[..need - 1]);
+        out.copy_from_slice(&as_sheet(image)[..need - 1]);
         return (0, need);
     }
     (number, need)
@@ -118,7 +118,7 @@ fn takes_one_too_few(image: &mut Image, out: &mut [u8]) -> (u8, usize) {
 fn writes_as_much_as_fits(image: &mut Image, out: &mut [u8]) -> (u8, usize) {
     let (number, need) = raw::write_sheet(image, out);
     if number == 14 {
-        out.copy_from_slice(&records(image)[..out.len()]);
+        out.copy_from_slice(&as_sheet(image)[..out.len()]);
     }
     (number, need)
 }
@@ -148,7 +148,7 @@ fn loses_length(image: &mut Image, out: &mut [u8]) -> (u8, usize) {
 
 fn gives_length_of_no_state(image: &mut Image, out: &mut [u8]) -> (u8, usize) {
     match raw::write_sheet(image, out) {
-        (12, _) => (12, records(image).len()),
+        (12, _) => (12, as_sheet(image).len()),
         taken => taken,
     }
 }
@@ -175,6 +175,18 @@ fn minds_leftovers(image: &mut Image, out: &mut [u8]) -> (u8, usize) {
     raw::write_sheet(image, out)
 }
 
+/// Has no room for the longest sheet.
+fn stops_below_longest(image: &mut Image, out: &mut [u8]) -> (u8, usize) {
+    let room = out.len().min(LONGEST - 1);
+    raw::write_sheet(image, &mut out[..room])
+}
+
+/// Takes an end without a record above it for nothing.
+fn writes_no_end_alone(image: &mut Image, out: &mut [u8]) -> (u8, usize) {
+    let sheet = as_sheet(image);
+    put(image, if sheet == [5] { &[] } else { &sheet }, out)
+}
+
 fn forgets_history(image: &mut Image, out: &mut [u8]) -> (u8, usize) {
     let taken = raw::write_sheet(image, out);
     image[LINES] = 0;
@@ -185,7 +197,7 @@ fn forgets_history(image: &mut Image, out: &mut [u8]) -> (u8, usize) {
 /// noticed.
 #[test]
 fn the_comparison_of_sheets_can_fail() {
-    let wrong: [(Write, &str); 15] = [
+    let wrong: [(Write, &str); 17] = [
         (joins_fours, "the length"),
         (puts_rules_first, "the buffer"),
         (sorts_triggers, "the buffer"),
@@ -198,6 +210,8 @@ fn the_comparison_of_sheets_can_fail() {
         (loses_length, "the length"),
         (gives_length_of_no_state, "the length"),
         (counts_in_a_byte, "the number"),
+        (stops_below_longest, "not written"),
+        (writes_no_end_alone, "the number"),
         (writes_first_states_alone, "the number"),
         (minds_leftovers, "the number"),
         (forgets_history, "the bytes"),

@@ -94,7 +94,7 @@ pub fn scheduler(image: &Image) -> Option<Scheduler> {
     if !is_sound(image) {
         return None;
     }
-    let sheet = Sheet::read(&records(image)).expect("a state that hangs together has a sheet");
+    let sheet = Sheet::read(&as_sheet(image)).expect("a state that hangs together has a sheet");
     let of_fate = |fate| places(image, FATE, image[EVENTS], number(fate));
     let state = State {
         held: of_fate(Fate::Held),
@@ -115,7 +115,7 @@ fn places(image: &Image, row: usize, count: u8, value: u8) -> Set {
 }
 
 /// A sheet that declares what the bytes do.
-pub fn records(image: &Image) -> Vec<u8> {
+pub fn as_sheet(image: &Image) -> Vec<u8> {
     let mut bytes = Vec::new();
     for event in 0..usize::from(image[EVENTS]) {
         bytes.extend([1, image[STEP + event], image[ATTRIBUTES + event]]);

@@ -9,6 +9,7 @@ use crate::peer::Scheduler;
 
 const EVENT: u8 = 1;
 const FOUR_EVENTS: u8 = 6;
+const CONDITIONAL: usize = 4;
 
 /// How a buffer's length is to the sheet's.
 const BUFFERS: [&str; 8] = [
@@ -46,12 +47,14 @@ pub struct Tally {
     pub all_events: usize,
     pub all_rules: usize,
     pub longest: usize,
-    /// Those with a rule of a kind, by the kind; with a conditional that names the higher
-    /// of its triggers first.
-    pub kinds: [usize; 5],
+    /// Events written, by step and by attributes, of which 4 and 5 are no event's; rules
+    /// written, by kind; conditionals that name the higher of their triggers first.
+    pub steps: [usize; 8],
+    pub attributes: [usize; 8],
+    pub rules: [usize; 5],
     pub higher_first: usize,
-    /// Those of states with an event of a fate, by its number; with a closed step, with a
-    /// broken rule, with bytes past the counts.
+    /// Sheets written of states with an event of a fate, by its number; with a closed step,
+    /// with a broken rule, with bytes past the counts.
     pub fates: [usize; 5],
     pub closed: usize,
     pub broken: usize,
@@ -100,17 +103,25 @@ impl Tally {
 
     fn add_written(&mut self, sheet: &[u8]) {
         let records = records(sheet);
-        let of_kind = |kind: u8| records.iter().filter(|record| record[0] == kind).count();
-        let events = of_kind(EVENT);
+        let events = records.iter().filter(|record| record[0] == EVENT).count();
         self.empty += usize::from(records.is_empty());
         self.all_events += usize::from(events == MOST_EVENTS);
         self.all_rules += usize::from(records.len() - events == MOST_RULES);
         self.longest += usize::from(sheet.len() == LONGEST);
-        for kind in 2..=4 {
-            self.kinds[usize::from(kind)] += usize::from(of_kind(kind) > 0);
+        for record in records {
+            self.add_record(record);
         }
-        let higher_first = |record: &&[u8]| matches!(**record, [4, a, b, _] if a > b);
-        self.higher_first += usize::from(records.iter().any(higher_first));
+    }
+
+    fn add_record(&mut self, record: &[u8]) {
+        let [kind, one, other] = [0, 1, 2].map(|place| usize::from(record[place]));
+        if record[0] == EVENT {
+            self.steps[one] += 1;
+            self.attributes[other] += 1;
+        } else {
+            self.rules[kind] += 1;
+            self.higher_first += usize::from(kind == CONDITIONAL && one > other);
+        }
     }
 
     fn add_fates(&mut self, peer: &Scheduler) {
@@ -154,7 +165,10 @@ impl Tally {
         let mut counts: Vec<(String, usize)> = Vec::new();
         let named = self.named().into_iter();
         counts.extend(named.map(|(name, met)| (name.to_string(), met)));
-        counts.extend(numbered("sheets with a rule of kind", &self.kinds, 2));
+        counts.extend(numbered("events of step", &self.steps, 0));
+        counts.extend(numbered("events of attributes", &self.attributes[..4], 0));
+        counts.extend(numbered("events of attributes", &self.attributes, 6));
+        counts.extend(numbered("rules of kind", &self.rules, 2));
         counts.extend(numbered("states with an event of fate", &self.fates, 0));
         for (name, met) in ORIGINS.iter().zip(self.origins) {
             counts.push((format!("states that are {name}"), met));

@@ -21,7 +21,7 @@ use crate::peer::write::{length, LONGEST};
 use crate::random::{longest_sheet, other_form, Random};
 
 /// The writings of the test.
-pub const COUNT: usize = 300_000;
+pub const COUNT: usize = 500_000;
 /// The runs on a sheet that is as long as any, and the writings with bytes past the counts.
 const LONGEST_PERCENT: u64 = 5;
 const LEFTOVERS_PERCENT: u64 = 30;

@@ -48,15 +48,17 @@ impl Outcome {
         image: &Image,
         fill: &[u8],
     ) -> Outcome {
-        let (mut image, mut buffer) = (*image, [&GUARD, fill, &GUARD].concat());
-        let lent = &mut buffer[GUARD.len()..][..fill.len()];
-        let (number, need) = write(black_box(&mut image), lent);
-        Outcome {
-            number,
-            need,
-            buffer,
-            image: *black_box(&image),
-        }
+        let mut outcome = Outcome {
+            number: 0,
+            need: 0,
+            buffer: [&GUARD, fill, &GUARD].concat(),
+            image: *image,
+        };
+        let lent = &mut outcome.buffer[GUARD.len()..][..fill.len()];
+        let answer = write(&mut outcome.image, lent);
+        let seen = black_box(&mut outcome);
+        (seen.number, seen.need) = answer;
+        outcome
     }
 
     /// Asks that the library's outcome is the peer's.
