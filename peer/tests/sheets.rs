@@ -4,7 +4,7 @@
 use peer::cases::{sheet_of, CASES};
 use peer::compare::{seed, SEED};
 use peer::images::brought::{as_sheet, leftovers, scheduler};
-use peer::images::layout::{first, Image, ATTRIBUTES, EVENTS, LINES, RULES, STEP};
+use peer::images::layout::{Image, ATTRIBUTES, EVENTS, LINES, RULES, STEP};
 use peer::images::runs::led_to;
 use peer::images::sheets::{agree, compare, reads_back, written_alike, Write, COUNT, LIBRARY};
 use peer::library::{raw, STATE_LEN};
@@ -281,7 +281,7 @@ fn check(image: &Image, sheet: &[u8]) {
 fn cases_are_written_as_they_stand() {
     let admitted = |sheet: &[u8]| Sheet::read(sheet).is_ok();
     for case in CASES.iter().filter(|case| admitted(case.sheet)) {
-        check(&first(case.sheet), case.sheet);
+        check(&led_to(case.sheet, &[]), case.sheet);
         check(&led_to(case.sheet, case.calls), case.sheet);
     }
 }
@@ -290,7 +290,7 @@ fn cases_are_written_as_they_stand() {
 #[test]
 fn records_are_taken_apart_and_put_in_order() {
     let four = [1, 3, 7, 1, 3, 0, 1, 3, 6, 1, 3, 1, 5];
-    check(&first(&[6, 3, 5]), &four);
+    check(&led_to(&[6, 3, 5], &[]), &four);
     let mixed = [
         1, 2, 6, // event 0
         6, 1, // 1 to 4
@@ -311,7 +311,7 @@ fn records_are_taken_apart_and_put_in_order() {
         3, 8, 5, // need
         5,
     ];
-    check(&first(&mixed), &written);
+    check(&led_to(&mixed, &[]), &written);
     let calls = [16, 0, 16, 5, 17, 7, 16, 2];
     check(&led_to(&mixed, &calls), &written);
     let mut random = Random::new(SEED);
@@ -323,7 +323,7 @@ fn records_are_taken_apart_and_put_in_order() {
 /// The empty state, also that of a sheet that is turned down, is the end alone.
 #[test]
 fn the_empty_state_is_one_byte() {
-    check(&first(&[5]), &[5]);
+    check(&led_to(&[5], &[]), &[5]);
     let mut image = [FILL; STATE_LEN];
     assert_eq!(raw::open(&mut image, sheet_of("F")), (7, 6));
     check(&image, &[5]);
@@ -341,24 +341,24 @@ fn the_longest_sheet_is_written() {
     let delayable: Vec<u8> = (0..16).flat_map(|event| [1, event % 8, 6]).collect();
     let sheet = [delayable, rules].concat();
     assert_eq!((sheet.len(), LONGEST), (113, 113));
-    check(&first(&sheet), &sheet);
+    check(&led_to(&sheet, &[]), &sheet);
     let rules = [4, 2, 0, 3, 4, 6, 4, 7, 4, 10, 8, 11, 4, 14, 12, 15].repeat(4);
     let fours = [&[6, 0, 6, 5, 6, 2, 6, 7][..], &rules, &[5]].concat();
     let events = [0, 5, 2, 7].map(|step| [1, step, 7, 1, step, 0, 1, step, 6, 1, step, 1]);
     let sheet = [&events.concat()[..], &rules, &[5]].concat();
     assert_eq!(sheet.len(), LONGEST);
-    check(&first(&fours), &sheet);
+    check(&led_to(&fours, &[]), &sheet);
 }
 
 /// Bytes that are no state are turned down before the buffer is looked at.
 #[test]
 fn no_state_is_no_sheet() {
-    let mut incoherent = first(sheet_of("A"));
+    let mut incoherent = led_to(sheet_of("A"), &[]);
     incoherent[LINES] = 1;
     for image in [[0; STATE_LEN], [FILL; STATE_LEN], incoherent] {
         for length in [0, 1, 12, 13, LONGEST, 200] {
             let fill = vec![FILL; length];
-            let agreed = agree(LIBRARY, &image, None, &fill);
+            let agreed = agree(LIBRARY, &image, scheduler(&image).as_ref(), &fill);
             let outcome = agreed.unwrap_or_else(|difference| panic!("{difference}"));
             assert_eq!((outcome.number, outcome.need), (12, 0));
             assert_eq!(outcome.lent(), fill);

@@ -5,7 +5,8 @@ use super::brought::{brought, scheduler};
 use super::damaged::{damaged, INCOHERENT, LIBRARY};
 use super::layout::{first, put, Image};
 use crate::compare::hex;
-use crate::library::raw::Entry;
+use crate::library::raw::{self, Entry};
+use crate::library::STATE_LEN;
 use crate::peer::calls::{apply, split_call, Answer, Call};
 use crate::peer::sheet::MOST_EVENTS;
 use crate::peer::{Scheduler, Sheet};
@@ -168,9 +169,11 @@ impl fmt::Display for Run {
     }
 }
 
-/// The bytes that these calls lead to, all of which have to be taken.
+/// The bytes that these calls lead to in the library, which has to take the sheet and
+/// each of them.
 pub fn led_to(sheet: &[u8], calls: &[u8]) -> Image {
-    let (mut image, mut rest) = (first(sheet), calls);
+    let (mut image, mut rest) = ([0; STATE_LEN], calls);
+    assert_eq!(raw::open(&mut image, sheet), (0, 0), "{}", hex(sheet));
     while let Some((call, after)) = split_call(rest) {
         assert_eq!((LIBRARY.call)(&mut image, call), 0, "{call:?}");
         rest = after;
