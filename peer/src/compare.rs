@@ -13,6 +13,14 @@ pub const SEED: u64 = 20_260_101;
 /// The pairs of the test.
 pub const COUNT: usize = 40_000;
 
+/// The seed that `COMPARE_SEED` in the environment gives, or else the test's own.
+pub fn seed() -> u64 {
+    match std::env::var("COMPARE_SEED") {
+        Ok(text) => text.parse().expect("COMPARE_SEED is a number"),
+        Err(_) => SEED,
+    }
+}
+
 /// What the pairs met with, so that agreement is not agreement on nothing.
 #[derive(Clone, Debug, Default, PartialEq, Eq)]
 pub struct Tally {
@@ -228,6 +236,11 @@ impl fmt::Debug for Difference {
     fn fmt(&self, out: &mut fmt::Formatter) -> fmt::Result {
         fmt::Display::fmt(self, out)
     }
+}
+
+/// The first place where the two differ.
+pub fn difference<T: PartialEq>(one: &[T], other: &[T]) -> Option<usize> {
+    one.iter().zip(other).position(|(one, other)| one != other)
 }
 
 pub fn hex(bytes: &[u8]) -> String {

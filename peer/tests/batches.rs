@@ -2,7 +2,7 @@
 //! `COMPARE_SEED` in the environment gives another seed.
 
 use peer::cases::sheet_of;
-use peer::compare::SEED;
+use peer::compare::{seed, SEED};
 use peer::images::batches::{agree, compare, Batch, COUNT};
 use peer::images::brought::scheduler;
 use peer::images::layout::{first, Image, FATE, LINES, LINE_EVENT, LINE_FATE, SPARE};
@@ -16,10 +16,7 @@ const FILL: u8 = 0xa5;
 
 #[test]
 fn every_batch_agrees_with_peer() {
-    let seed = match std::env::var("COMPARE_SEED") {
-        Ok(text) => text.parse().expect("COMPARE_SEED is a number"),
-        Err(_) => SEED,
-    };
+    let seed = seed();
     match compare(seed, COUNT, raw::submit_all) {
         Ok(tally) => {
             println!("{tally:#?}");

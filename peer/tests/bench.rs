@@ -136,11 +136,12 @@ fn single_calls_are_made_on_full_states() {
 }
 
 /// A state that answers calls of a kind without doing anything, or previews without
-/// counting anything.
+/// counting anything, or gives the length of its sheet without writing it.
 #[derive(Clone)]
 struct Ignores<const KIND: u8>(Scheduler);
 
 const PREVIEWS: u8 = 0;
+const WRITINGS: u8 = 1;
 const CLOSINGS: u8 = 17;
 const WINDINGS_UP: u8 = 18;
 
@@ -166,6 +167,13 @@ impl<const KIND: u8> Kept for Ignores<KIND> {
     fn preview(&self, event: u8) -> Result<Counts, u8> {
         let added = self.0.preview(event)?;
         Ok(if KIND == PREVIEWS { [0; 4] } else { added })
+    }
+
+    fn write_sheet(&self, out: &mut [u8]) -> (u8, usize) {
+        let mut unwritten = out.to_vec();
+        let kept = KIND == WRITINGS;
+        let lent = if kept { &mut unwritten[..] } else { out };
+        self.0.write_sheet(lent)
     }
 
     fn report(&self) -> Vec<u8> {
@@ -212,6 +220,21 @@ fn library_agrees_on_the_preview() {
     let right = single::previews::<State>();
     assert!(right.is_ok_and(|work| work.name.contains(waited_for)));
     assert!(single::previews::<Ignores<PREVIEWS>>().is_err());
+}
+
+/// The sheet that is written is that of sixteen events done under sixteen orders. A state
+/// that does not write it is found out.
+#[test]
+fn library_agrees_on_the_sheet_written_out() {
+    let mut list = single::list().into_iter();
+    let hand_in = list.find(|single| single.name == "a hand-in of a settled event");
+    let (sheet, _) = hand_in.expect("a call of that name").before;
+    let state: State = Kept::open(&sheet);
+    let (number, length, out) = single::written(&state);
+    assert_eq!((number, &out[..length]), (0, sheet.as_slice()));
+    assert_eq!(length, 16 * 3 + 16 * 3 + 1);
+    assert!(single::writings::<State>().is_ok());
+    assert!(single::writings::<Ignores<WRITINGS>>().is_err());
 }
 
 /// Those of random sheets and the long one. A state that ignores closings is found

@@ -1,7 +1,7 @@
 //! States that a host keeps: single calls against the peer, and damaged bytes.
 //! `COMPARE_SEED` in the environment gives another seed.
 
-use peer::compare::SEED;
+use peer::compare::{seed, SEED};
 use peer::images::damaged::{self, Functions, LIBRARY};
 use peer::images::layout::{first, Image, SPARE};
 use peer::images::single::{self, Host, Shown};
@@ -11,13 +11,6 @@ use peer::random::{sheet, Random};
 
 /// Everything that the comparisons are about has to be met this often.
 const LEAST: usize = 150;
-
-fn seed() -> u64 {
-    match std::env::var("COMPARE_SEED") {
-        Ok(text) => text.parse().expect("COMPARE_SEED is a number"),
-        Err(_) => SEED,
-    }
-}
 
 #[test]
 fn every_call_agrees_with_peer() {

@@ -1,13 +1,13 @@
 //! Previews on states that a host keeps, against the peer and against really handing in.
 //! `COMPARE_SEED` in the environment gives another seed.
 
-use peer::bench::kept::make_all;
 use peer::cases::sheet_of;
-use peer::compare::SEED;
+use peer::compare::{seed, SEED};
 use peer::images::brought::scheduler;
 use peer::images::layout::{first, Image, EVENTS, FATE, LINES, LINE_FATE};
 use peer::images::previews::{agree, compare, Counts, Preview, COUNT, LIBRARY};
-use peer::library::{raw, State, STATE_LEN};
+use peer::images::runs::led_to;
+use peer::library::{raw, STATE_LEN};
 
 /// Everything that the comparison is about has to be met this often, and each number.
 const LEAST: usize = 150;
@@ -17,10 +17,7 @@ const NONE: Counts = [0; 4];
 
 #[test]
 fn every_preview_agrees_with_peer() {
-    let seed = match std::env::var("COMPARE_SEED") {
-        Ok(text) => text.parse().expect("COMPARE_SEED is a number"),
-        Err(_) => SEED,
-    };
+    let seed = seed();
     match compare(seed, COUNT, LIBRARY) {
         Ok(tally) => {
             println!("{tally:#?}");
@@ -128,13 +125,6 @@ fn the_comparison_of_previews_can_fail() {
     }
     let few = compare(SEED, 200, LIBRARY).expect("no difference");
     assert!(few.missing(LEAST).is_some());
-}
-
-/// The state after these calls.
-fn led_to(sheet: &[u8], calls: &[u8]) -> Image {
-    let mut state = State::open(sheet).expect("an admitted sheet");
-    make_all(&mut state, calls, |number| assert_eq!(number, 0));
-    *state.as_bytes()
 }
 
 /// Previews the event in both and asks for the counts, or for the number, that are worked

@@ -1,7 +1,7 @@
 //! The library against the peer on random sheets and lists. `COMPARE_SEED` in
 //! the environment gives another seed.
 
-use peer::compare::{compare, COUNT, SEED};
+use peer::compare::{compare, seed, COUNT, SEED};
 use peer::peer::Sheet;
 use peer::{library, peer as second};
 
@@ -10,10 +10,7 @@ const LEAST: usize = 150;
 
 #[test]
 fn library_agrees_with_peer() {
-    let seed = match std::env::var("COMPARE_SEED") {
-        Ok(text) => text.parse().expect("COMPARE_SEED is a number"),
-        Err(_) => SEED,
-    };
+    let seed = seed();
     match compare(seed, COUNT, library::run) {
         Ok(tally) => {
             println!("{tally:#?}");

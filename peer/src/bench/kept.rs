@@ -1,6 +1,7 @@
 //! States that their owner keeps between calls: the library's and the peer's.
 
-use crate::images::previews::{of_peer, Counts};
+use crate::images::previews::{self, Counts};
+use crate::images::sheets;
 use crate::library::{raw, State};
 use crate::peer::calls::{apply, split_call, Answer, Call, Run};
 use crate::peer::report::report;
@@ -13,6 +14,8 @@ pub trait Kept: Clone {
     fn call(&mut self, call: Call) -> u8;
     /// What handing in an event would settle, by fate; or the number that turns it down.
     fn preview(&self, event: u8) -> Result<Counts, u8>;
+    /// Writes the state's sheet into a lent buffer. Gives the number and the length.
+    fn write_sheet(&self, out: &mut [u8]) -> (u8, usize);
     /// The state's report, with no call turned down.
     fn report(&self) -> Vec<u8>;
     /// Whether the two are the same state.
@@ -41,6 +44,10 @@ impl Kept for State {
         }
     }
 
+    fn write_sheet(&self, out: &mut [u8]) -> (u8, usize) {
+        raw::write_sheet(self.as_bytes(), out)
+    }
+
     fn report(&self) -> Vec<u8> {
         State::report(self, 0)
     }
@@ -63,7 +70,11 @@ impl Kept for Scheduler {
     }
 
     fn preview(&self, event: u8) -> Result<Counts, u8> {
-        of_peer(Some(self), event)
+        previews::of_peer(Some(self), event)
+    }
+
+    fn write_sheet(&self, out: &mut [u8]) -> (u8, usize) {
+        sheets::of_peer(Some(self), out)
     }
 
     fn report(&self) -> Vec<u8> {

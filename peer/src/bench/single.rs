@@ -1,6 +1,6 @@
-//! Single calls and a preview on a state that its owner keeps, where the state is as
-//! full as it can be: 16 events, 16 rules, and a full history or sixteen events held (in
-//! the last call and the preview, 15 rules and fifteen held).
+//! Single calls, a preview and a sheet written out, on a state that its owner keeps, where
+//! the state is as full as it can be: 16 events, 16 rules, and a full history or sixteen
+//! events held (in the last call and the preview, 15 rules and fifteen held).
 //!
 //! The library tests number 12 in each, as any bytes could be given to it; the peer never
 //! does.
@@ -9,6 +9,7 @@ use super::bytes::{all_held, all_settled, closings, hand_ins, star, Pair};
 use super::kept::{make_all, Kept};
 use super::timing::Work;
 use crate::peer::calls::Call;
+use crate::peer::write::LONGEST;
 use crate::peer::Scheduler;
 use std::cell::RefCell;
 use std::hint::black_box;
@@ -185,6 +186,40 @@ fn preview(state: &impl Kept, event: u8) {
     for _ in 0..PASS {
         let added = black_box(state).preview(black_box(event));
         black_box(&added);
+    }
+}
+
+/// Writings of the fullest state's sheet into one buffer. The library has to write as the
+/// peer does.
+pub fn writings<Library: Kept + 'static>() -> Result<Work<'static>, String> {
+    let name = "a sheet of 16 events and 16 rules, written out";
+    let full = single(name, &all_settled(), Call::Finish);
+    let (library, peer) = (full.state::<Library>(), full.state::<Scheduler>());
+    if written(&library) != written(&peer) {
+        return Err(format!("{name} differs"));
+    }
+    Ok(Work {
+        name,
+        calls: PASS,
+        passes: [
+            Box::new(move || write(&library)),
+            Box::new(move || write(&peer)),
+        ],
+    })
+}
+
+/// The number, the length, and the buffer after a writing.
+pub fn written(state: &impl Kept) -> (u8, usize, [u8; LONGEST]) {
+    let mut out = [0; LONGEST];
+    let (number, length) = state.write_sheet(&mut out);
+    (number, length, out)
+}
+
+fn write(state: &impl Kept) {
+    let mut out = [0; LONGEST];
+    for _ in 0..PASS {
+        black_box(black_box(state).write_sheet(&mut out));
+        black_box(&mut out);
     }
 }
 

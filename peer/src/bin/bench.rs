@@ -1,10 +1,11 @@
 //! Times the library beside the peer and prints two tables in markdown. The first
 //! has a row for each workload: the time of one call, its list's reading of the
 //! sheet and report included (of a list made one by one, the reading alone), and the
-//! library's time over the peer's; then single calls and a preview on full states; then
-//! batches, by the time of one entry, beside the same calls made one by one. The second
-//! says how many calls a second the lists are that are run and made one by one. All
-//! answers and reports are compared first; a difference ends the run with status 1.
+//! library's time over the peer's; then single calls, a preview and a sheet written out,
+//! on full states; then batches, by the time of one entry, beside the same calls made one
+//! by one. The second says how many calls a second the lists are that are run and made one
+//! by one. All answers, sheets and reports are compared first; a difference ends the run
+//! with status 1.
 
 use peer::bench::{batches, single, table, timing, workloads};
 use peer::library::{self, raw, State};
@@ -26,6 +27,7 @@ fn run() -> Result<(), String> {
         works.push(single.work::<State>()?);
     }
     works.push(single::previews::<State>()?);
+    works.push(single::writings::<State>()?);
     works.push(single::copies::<State>());
     for posts in &batches {
         works.extend(posts.works(raw::submit_all)?);

@@ -1,9 +1,9 @@
 //! `compare SEED COUNT`: the library against the peer on random pairs, as lists and
 //! as single calls on a kept state; then damaged copies of as many states; then as many
-//! batches, and as many previews.
+//! batches, as many previews, and as many sheets written out.
 
 use peer::compare::{compare, COUNT, SEED};
-use peer::images::{batches, damaged, previews, single};
+use peer::images::{batches, damaged, previews, sheets, single};
 use peer::library::{self, raw, State};
 use std::process::ExitCode;
 
@@ -19,6 +19,8 @@ fn run(seed: u64, count: usize) -> Result<(), String> {
     println!("batches: {batches:#?}");
     let previews = previews::compare(seed, count, previews::LIBRARY)?;
     println!("previews: {previews:#?}");
+    let sheets = sheets::compare(seed, count, sheets::LIBRARY)?;
+    println!("sheets written out: {sheets:#?}");
     println!("{count} pairs, 0 differences");
     Ok(())
 }

@@ -4,6 +4,7 @@
 use super::layout::*;
 use super::sound::is_sound;
 use crate::peer::set::{one, Set};
+use crate::peer::sheet::{MOST_EVENTS, MOST_RULES};
 use crate::peer::{Fate, Scheduler, Sheet, State};
 use crate::random::{sheet, Made, Random};
 
@@ -58,12 +59,42 @@ fn active(image: &Image) -> usize {
         .count()
 }
 
+/// The bytes of a state with any others past its counts, as far as they are a state still.
+pub fn leftovers(random: &mut Random, image: &Image) -> Image {
+    let mut copy = *image;
+    let count = |place: usize| usize::from(image[place]);
+    for event in count(EVENTS)..MOST_EVENTS {
+        copy[STEP + event] = any_byte(random);
+        copy[ATTRIBUTES + event] = any_byte(random);
+        copy[FATE + event] = random.below(5) as u8;
+    }
+    for rule in count(RULES)..MOST_RULES {
+        let kind = random.pick(&[2, 3, 4, 4]);
+        copy[RULE_KIND + rule] = kind;
+        copy[RULE_A + rule] = any_byte(random);
+        copy[RULE_B + rule] = any_byte(random);
+        copy[RULE_C + rule] = if kind == 4 { any_byte(random) } else { 0 };
+        copy[BROKEN + rule] = random.below(2) as u8;
+    }
+    for line in count(LINES)..MOST_EVENTS {
+        copy[LINE_EVENT + line] = any_byte(random);
+        copy[LINE_FATE + line] = random.below(5) as u8;
+    }
+    copy
+}
+
+/// Half of the time one that a declaration could have.
+fn any_byte(random: &mut Random) -> u8 {
+    let byte = random.byte();
+    random.pick(&[byte, byte % 8])
+}
+
 /// The peer's state of the bytes; none where number 12 meets them.
 pub fn scheduler(image: &Image) -> Option<Scheduler> {
     if !is_sound(image) {
         return None;
     }
-    let sheet = Sheet::read(&records(image)).expect("a state that hangs together has a sheet");
+    let sheet = Sheet::read(&as_sheet(image)).expect("a state that hangs together has a sheet");
     let of_fate = |fate| places(image, FATE, image[EVENTS], number(fate));
     let state = State {
         held: of_fate(Fate::Held),
@@ -84,7 +115,7 @@ fn places(image: &Image, row: usize, count: u8, value: u8) -> Set {
 }
 
 /// A sheet that declares what the bytes do.
-fn records(image: &Image) -> Vec<u8> {
+pub fn as_sheet(image: &Image) -> Vec<u8> {
     let mut bytes = Vec::new();
     for event in 0..usize::from(image[EVENTS]) {
         bytes.extend([1, image[STEP + event], image[ATTRIBUTES + event]]);

@@ -1,12 +1,13 @@
-//! Single calls, batches and previews on a state that a host keeps, the library's
-//! against the peer's, and what the library does with damaged bytes.
+//! Single calls, batches, previews and sheets written out, on a state that a host keeps,
+//! the library's against the peer's, and what the library does with damaged bytes.
 //!
 //! `layout` writes the bytes that a state has to have from a sheet and the peer's
 //! state, and `sound` says which bytes are a state that hangs together (10.4 of
 //! the specification); both are written from the header and the specification
 //! alone. `single` compares after every call, `damaged` changes bytes, `brought` has
 //! states that no list may lead to, and `runs` goes on with states of all these sorts;
-//! on them `batches` compares after every batch, and `previews` after every call.
+//! on them `batches` compares after every batch, `previews` and `sheets` after every
+//! call.
 
 pub mod batches;
 pub mod brought;
@@ -14,5 +15,6 @@ pub mod damaged;
 pub mod layout;
 pub mod previews;
 pub mod runs;
+pub mod sheets;
 pub mod single;
 pub mod sound;

@@ -5,15 +5,19 @@ use super::brought::{brought, scheduler};
 use super::damaged::{damaged, INCOHERENT, LIBRARY};
 use super::layout::{first, put, Image};
 use crate::compare::hex;
-use crate::library::raw::Entry;
-use crate::peer::calls::{apply, Answer, Call};
+use crate::library::raw::{self, Entry};
+use crate::library::STATE_LEN;
+use crate::peer::calls::{apply, split_call, Answer, Call};
 use crate::peer::sheet::MOST_EVENTS;
 use crate::peer::{Scheduler, Sheet};
-use crate::random::{sheet, Made, Random};
+use crate::random::{sheet, single_calls, Made, Random};
 use std::fmt;
 
 /// The runs that start with a state that is brought.
 const BROUGHT_PERCENT: u64 = 35;
+/// The calls of a run that is gone through, and those that damage comes after.
+const MOST_CALLS: usize = 30;
+const DAMAGE_PERCENT: u64 = 6;
 
 /// Where a state comes from, which is also its place in a count.
 #[derive(Clone, Copy, Debug, PartialEq, Eq)]
@@ -74,13 +78,14 @@ impl Run {
             let (made, image) = until(|| brought(random, MOST_EVENTS));
             return Run::new(made, image, scheduler(&image), Origin::Brought);
         }
-        let (made, peer) = until(|| {
-            let made = sheet(random);
-            let read = Sheet::read(&made.bytes).ok()?;
-            Some((made, Scheduler::new(read)))
-        });
+        until(|| Run::open(sheet(random)))
+    }
+
+    /// From the first state of a sheet; none where that is turned down.
+    pub fn open(made: Made) -> Option<Run> {
+        let peer = Scheduler::new(Sheet::read(&made.bytes).ok()?);
         let image = first(&made.bytes);
-        Run::new(made, image, Some(peer), Origin::List)
+        Some(Run::new(made, image, Some(peer), Origin::List))
     }
 
     fn new(made: Made, image: Image, peer: Option<Scheduler>, origin: Origin) -> Run {
@@ -92,6 +97,35 @@ impl Run {
             peer,
             origin,
         }
+    }
+
+    /// Looks at the state at the start and after every call of a list, now and then with
+    /// damage after one, up to bytes that are no state. Gives how many calls were made.
+    pub fn go_through(
+        &mut self,
+        random: &mut Random,
+        mut look: impl FnMut(&Run, &mut Random) -> Result<(), String>,
+    ) -> Result<usize, String> {
+        look(self, random)?;
+        let calls = single_calls(random, &self.made);
+        let mut count = 0;
+        for call in calls.into_iter().take(MOST_CALLS) {
+            self.call(call)?;
+            count += 1;
+            if random.percent(DAMAGE_PERCENT) {
+                self.damage(random);
+            }
+            look(self, random)?;
+            if self.peer.is_none() {
+                break;
+            }
+        }
+        Ok(count)
+    }
+
+    /// Whether nothing was done from the start on.
+    pub fn is_at_start(&self) -> bool {
+        self.before.is_empty()
     }
 
     /// Makes a call in both and asks that it comes to the same.
@@ -133,6 +167,18 @@ impl fmt::Display for Run {
         }
         Ok(())
     }
+}
+
+/// The bytes that these calls lead to in the library, which has to take the sheet and
+/// each of them.
+pub fn led_to(sheet: &[u8], calls: &[u8]) -> Image {
+    let (mut image, mut rest) = ([0; STATE_LEN], calls);
+    assert_eq!(raw::open(&mut image, sheet), (0, 0), "{}", hex(sheet));
+    while let Some((call, after)) = split_call(rest) {
+        assert_eq!((LIBRARY.call)(&mut image, call), 0, "{call:?}");
+        rest = after;
+    }
+    image
 }
 
 /// The first that is there.

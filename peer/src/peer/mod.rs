@@ -14,6 +14,7 @@ pub mod scheduler;
 pub mod search;
 pub mod set;
 pub mod sheet;
+pub mod write;
 
 pub use calls::{trace, Answer, Run};
 pub use report::run;

@@ -11,14 +11,13 @@ use super::set::{has, one, within, Set};
 pub enum Rule {
     /// `waits` is true when `second` is delayable. It is an attribute of the
     /// event, so a forced `second` waits as well.
-    Order {
-        first: u8,
-        second: u8,
-        waits: bool,
-    },
+    Order { first: u8, second: u8, waits: bool },
     Follow {
         triggers: Set,
         goal: u8,
+        /// The trigger that the sheet names first. What the rule says does not
+        /// depend on it, what the sheet says does.
+        named_first: u8,
     },
 }
 
@@ -27,7 +26,7 @@ impl Rule {
     pub fn bars(&self, event: u8, done: Set, failed: Set) -> bool {
         match *self {
             Rule::Order { first, second, .. } => event == first && has(done, second),
-            Rule::Follow { triggers, goal } => {
+            Rule::Follow { triggers, goal, .. } => {
                 has(triggers, event) && within(triggers & !one(event), done) && has(failed, goal)
             }
         }
@@ -54,7 +53,9 @@ impl Rule {
     pub fn owes(&self, done: Set, failed: Set) -> bool {
         match *self {
             Rule::Order { .. } => false,
-            Rule::Follow { triggers, goal } => within(triggers, done) && !has(done | failed, goal),
+            Rule::Follow { triggers, goal, .. } => {
+                within(triggers, done) && !has(done | failed, goal)
+            }
         }
     }
 }

@@ -72,7 +72,7 @@ impl Terms {
                     self.waits_for[usize::from(second)] |= one(first) & !failed;
                 }
             }
-            Rule::Follow { triggers, goal } if has(failed, goal) => {
+            Rule::Follow { triggers, goal, .. } if has(failed, goal) => {
                 for event in members(triggers) {
                     match triggers & !one(event) {
                         0 => self.never |= one(event),
@@ -80,7 +80,7 @@ impl Terms {
                     }
                 }
             }
-            Rule::Follow { triggers, goal } => self.debts.push((triggers, one(goal))),
+            Rule::Follow { triggers, goal, .. } => self.debts.push((triggers, one(goal))),
         }
     }
 

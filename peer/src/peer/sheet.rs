@@ -13,7 +13,7 @@ const DELAYABLE: u8 = 4;
 
 /// Body lengths of kinds 0 to 6; kind 0 does not exist.
 const BODY: [Option<usize>; 7] = [None, Some(2), Some(2), Some(2), Some(3), Some(0), Some(1)];
-const END: u8 = 5;
+pub(super) const END: u8 = 5;
 /// st, pr, cm, ab.
 const FOUR: [u8; 4] = [7, 0, 6, 1];
 
@@ -61,6 +61,14 @@ impl Sheet {
     /// All declared events.
     pub fn all(&self) -> Set {
         ((1u32 << self.events()) - 1) as Set
+    }
+
+    /// The attributes of an event, as a sum.
+    pub fn attributes(&self, event: u8) -> u8 {
+        let sum = |set, attribute| if has(set, event) { attribute } else { 0 };
+        sum(self.forcible, FORCIBLE)
+            + sum(self.rejectable, REJECTABLE)
+            + sum(self.delayable, DELAYABLE)
     }
 
     /// The events of a step. A step above 7 has none.
@@ -120,11 +128,12 @@ impl Sheet {
                 second,
                 waits: has(self.delayable, second),
             },
-            [.., goal] => Rule::Follow {
+            [named_first, .., goal] => Rule::Follow {
                 triggers: seen & !one(goal),
                 goal,
+                named_first,
             },
-            [] => unreachable!("rules name events"),
+            _ => unreachable!("rules name two events or more"),
         };
         if !self.enforceable(&rule) {
             return Err(7);
@@ -136,11 +145,26 @@ impl Sheet {
     fn enforceable(&self, rule: &Rule) -> bool {
         match *rule {
             Rule::Order { first, waits, .. } => waits || has(self.rejectable, first),
-            Rule::Follow { triggers, goal } => {
+            Rule::Follow { triggers, goal, .. } => {
                 triggers & self.rejectable != 0 || has(self.forcible, goal)
             }
         }
     }
+}
+
+/// The records of an admitted sheet, without its end.
+pub fn records(sheet: &[u8]) -> Vec<&[u8]> {
+    let mut rest = sheet;
+    let mut found = Vec::new();
+    while let Ok((kind, body)) = split_record(rest) {
+        if kind == END {
+            break;
+        }
+        let (record, after) = rest.split_at(1 + body.len());
+        found.push(record);
+        rest = after;
+    }
+    found
 }
 
 /// The kind and body of the record at the front: the kind is checked before the

@@ -2,11 +2,13 @@
 
 mod batches;
 mod damage;
+mod forms;
 mod lists;
 mod shapes;
 mod sheets;
 
 pub use batches::{batch, batch_length, replies};
+pub use forms::{longest_sheet, other_form};
 pub use lists::{any_call, calls, hostile_list, mixed_list, single_calls};
 pub use shapes::hostile_sheet;
 pub use sheets::{admitted_sheet, sheet, Made};

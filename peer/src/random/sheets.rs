@@ -9,7 +9,7 @@ const DAMAGED_PERCENT: u64 = 25;
 const CHAIN_PERCENT: u64 = 20;
 const SHAPED_PERCENT: u64 = 55;
 /// st, pr, cm, ab.
-const FOUR: [u8; 4] = [7, 0, 6, 1];
+pub(super) const FOUR: [u8; 4] = [7, 0, 6, 1];
 /// Delayable or forcible.
 const ACTIVE: u8 = 5;
 
@@ -136,7 +136,7 @@ fn draft(random: &mut Random) -> Draft {
 
 /// Events and rules in mixed order. Some sheets favour delayable events, some
 /// forcible ones; some have a chain of needs.
-fn draft_of(random: &mut Random, events: usize, rules: usize) -> Draft {
+pub(super) fn draft_of(random: &mut Random, events: usize, rules: usize) -> Draft {
     const DELAYED: &[u8] = &[6, 6, 6, 6, 7, 1, 0];
     const FORCED: &[u8] = &[1, 1, 7, 7, 3, 6, 0];
     const EVEN: &[u8] = &[0, 1, 2, 3, 6, 7, 6, 6];

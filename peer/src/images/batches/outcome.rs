@@ -1,6 +1,6 @@
 //! What one batch comes to, in the library, in the peer, and as single calls.
 
-use crate::compare::hex;
+use crate::compare::{difference, hex};
 use crate::images::damaged::INCOHERENT;
 use crate::images::layout::{number, put, Image, FATE};
 use crate::images::runs::listed;
@@ -84,11 +84,6 @@ impl fmt::Display for Outcome {
         writeln!(out, "guarded entries {}", listed(&self.entries))?;
         write!(out, "bytes {}", hex(&self.image))
     }
-}
-
-/// The first place where the two differ.
-fn difference<T: PartialEq>(one: &[T], other: &[T]) -> Option<usize> {
-    one.iter().zip(other).position(|(one, other)| one != other)
 }
 
 fn guarded(lent: &[Entry]) -> Vec<Entry> {

@@ -14,13 +14,10 @@ pub use outcome::{agree, of_peer, Counts, Outcome, Preview, LIBRARY};
 
 use super::layout::{Image, BEYOND, EVENTS, FATE};
 use super::runs::Run;
-use crate::random::{single_calls, Random};
+use crate::random::Random;
 
 /// The previews of the test.
 pub const COUNT: usize = 300_000;
-/// The calls of a run, and those that damage comes after.
-const MOST_CALLS: usize = 30;
-const DAMAGE_PERCENT: u64 = 6;
 /// More than a count can be.
 const LEAST_FILL: usize = 17;
 
@@ -31,37 +28,14 @@ pub fn compare(seed: u64, count: usize, library: Preview) -> Result<Tally, Strin
     let mut tally = Tally::default();
     while tally.previews < count {
         let mut run = Run::start(&mut random);
-        let right = go_through(&mut run, &mut random, library, &mut tally);
-        right.map_err(|what| format!("preview {}, {run}\n{what}", tally.previews))?;
+        let right = run.go_through(&mut random, |run, random| {
+            let mut each = events(random, run).into_iter();
+            each.try_for_each(|event| preview(run, random, event, library, &mut tally))
+        });
+        let place = |what| format!("preview {}, {run}\n{what}", tally.previews);
+        tally.calls += right.map_err(place)?;
     }
     Ok(tally)
-}
-
-/// Previews at the start and after every call of a list, up to bytes that are no state.
-fn go_through(
-    run: &mut Run,
-    random: &mut Random,
-    library: Preview,
-    tally: &mut Tally,
-) -> Result<(), String> {
-    for event in all_events(random, &run.image) {
-        preview(run, random, event, library, tally)?;
-    }
-    let calls = single_calls(random, &run.made);
-    for call in calls.into_iter().take(MOST_CALLS) {
-        run.call(call)?;
-        tally.calls += 1;
-        if random.percent(DAMAGE_PERCENT) {
-            run.damage(random);
-        }
-        for event in some_events(random, &run.image) {
-            preview(run, random, event, library, tally)?;
-        }
-        if run.peer.is_none() {
-            break;
-        }
-    }
-    Ok(())
 }
 
 /// A preview of an event, over bytes that could not be its counts.
@@ -77,6 +51,14 @@ fn preview(
     let (outcome, after) = agreed.map_err(|what| format!("event {event}: {what}"))?;
     tally.add(event, &outcome, &after, run.peer.as_ref(), run.origin);
     Ok(())
+}
+
+/// The events to preview on a state of a run.
+fn events(random: &mut Random, run: &Run) -> Vec<u8> {
+    if run.is_at_start() {
+        return all_events(random, &run.image);
+    }
+    some_events(random, &run.image)
 }
 
 /// The events to preview at the start of a run: all that the sheet declares and one
