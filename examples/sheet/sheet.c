@@ -23,11 +23,10 @@ static const uint8_t sheet[] = {
     5           /* the end */
 };
 
-/* A buffer as it is lent, and what was answered. */
+/* A buffer to lend, and the length that is answered. */
 typedef struct {
     uint8_t out[SINEWHOPA_SHEET_MOST];
     size_t need;
-    uint8_t number;
 } lent_buffer;
 
 static const char *fate_word(uint8_t fate)
@@ -53,14 +52,15 @@ static void show_bytes(const uint8_t *bytes, size_t count)
     printf("\n");
 }
 
-/* Lends so many bytes of a buffer for the state's sheet. False where a byte is written that is none of the sheet's. */
-static bool lend(const char *whose, const sinewhopa_state *state, size_t room, lent_buffer *lent)
+/* Lends so many bytes of the buffer and shows the answer. False where it is another, or more than a sheet is written. */
+static bool lend(const char *whose, const sinewhopa_state *state, size_t room, uint8_t expected, lent_buffer *lent)
 {
+    const sinewhopa_state before = *state;
     memset(lent->out, UNWRITTEN, sizeof lent->out);
     lent->need = UNWRITTEN;
-    lent->number = sinewhopa_write_sheet(state, lent->out, room, &lent->need);
-    bool taken = lent->number == SINEWHOPA_TAKEN;
-    bool as_it_was = true;
+    uint8_t number = sinewhopa_write_sheet(state, lent->out, room, &lent->need);
+    bool taken = number == SINEWHOPA_TAKEN;
+    bool as_it_was = memcmp(state, &before, sizeof before) == 0;
     for (size_t place = taken ? lent->need : 0; place < sizeof lent->out; place++) {
         as_it_was = as_it_was && lent->out[place] == UNWRITTEN;
     }
@@ -68,10 +68,10 @@ static bool lend(const char *whose, const sinewhopa_state *state, size_t room, l
     if (taken) {
         printf("written, length %zu, %s\n", lent->need, as_it_was ? "nothing beyond" : "WRITTEN BEYOND");
     } else {
-        printf("turned down, %u, length %zu, %s\n", (unsigned)lent->number, lent->need,
+        printf("turned down, %u, length %zu, %s\n", (unsigned)number, lent->need,
                as_it_was ? "nothing written" : "WRITTEN");
     }
-    return as_it_was;
+    return as_it_was && number == expected;
 }
 
 /* The calls that the office has made by now. */
@@ -86,17 +86,16 @@ static bool make_calls(sinewhopa_state *state)
 /* Asks for the length, tries a buffer that is one byte too short, and writes the sheet. */
 static bool write_out(const sinewhopa_state *state, lent_buffer *lent)
 {
-    if (!lend("office", state, 0, lent) || lent->number != SINEWHOPA_NO_ROOM) {
+    if (!lend("office", state, 0, SINEWHOPA_NO_ROOM, lent)) {
         return false;
     }
-    if (!lend("office", state, lent->need - 1, lent) || lent->number != SINEWHOPA_NO_ROOM) {
-        return false;
-    }
-    if (!lend("office", state, sizeof lent->out, lent) || lent->number != SINEWHOPA_TAKEN) {
+    size_t length = lent->need;
+    if (!lend("office", state, length - 1, SINEWHOPA_NO_ROOM, lent) ||
+        !lend("office", state, sizeof lent->out, SINEWHOPA_TAKEN, lent)) {
         return false;
     }
     show_bytes(lent->out, lent->need);
-    return true;
+    return lent->need == length;
 }
 
 /* The colleague opens what was written, has the office's first state, and writes the same bytes. */
@@ -111,7 +110,7 @@ static bool pass_on(const lent_buffer *written, const sinewhopa_state *first)
     show_state("colleague, opened", &state);
     bool same_state = memcmp(&state, first, sizeof state) == 0;
     printf("colleague: %s first state\n", same_state ? "the office's" : "NOT the office's");
-    if (!lend("colleague", &state, written->need, &again) || again.number != SINEWHOPA_TAKEN) {
+    if (!lend("colleague", &state, written->need, SINEWHOPA_TAKEN, &again)) {
         return false;
     }
     bool same_bytes = again.need == written->need && memcmp(again.out, written->out, again.need) == 0;
@@ -125,7 +124,7 @@ static bool try_no_state(void)
     sinewhopa_state state;
     lent_buffer lent;
     memset(&state, 0, sizeof state);
-    return lend("no state", &state, sizeof lent.out, &lent) && lent.number == SINEWHOPA_INCOHERENT && lent.need == 0;
+    return lend("no state", &state, sizeof lent.out, SINEWHOPA_INCOHERENT, &lent) && lent.need == 0;
 }
 
 int main(void)

@@ -35,8 +35,8 @@ fn bytes_line(bytes: &[u8]) -> String {
     bytes.join(" ")
 }
 
-/// Tells what was answered to a lent buffer, for a sheet of that length. It is an error
-/// where a byte is written that is none of the sheet's.
+/// Tells what was answered to a lent buffer; `length` is the one that was asked for. It is
+/// an error where a byte is written that is none of the sheet's.
 fn tell(
     whose: &str,
     lent: &[u8],
@@ -45,7 +45,7 @@ fn tell(
     out: &mut impl Write,
 ) -> Result<(), Box<dyn Error>> {
     let said = match answer {
-        Ok(_) => format!("written, length {length}, nothing beyond"),
+        Ok(written) => format!("written, length {written}, nothing beyond"),
         Err(fault) => {
             let number = fault.number();
             format!("turned down, {number}, length {length}, nothing written")
@@ -83,6 +83,9 @@ fn write_out(state: &State, out: &mut impl Write) -> Result<Vec<u8>, Box<dyn Err
     tell("office", &lent, answer, length, out)?;
     lent.truncate(answer?);
     writeln!(out, "{}", bytes_line(&lent))?;
+    if lent.len() != length {
+        return Err("the sheet has another length than was said".into());
+    }
     Ok(lent)
 }
 
