@@ -146,7 +146,8 @@ fn other(out: &mut fmt::Formatter<'_>, number: u8, at: usize) -> fmt::Result {
 
 impl Error for SheetFault {}
 
-/// Why a call, or a whole batch, is turned down. The state is as it was before it.
+/// Why a call, a whole batch or a buffer that is lent for a sheet is turned down. The
+/// state is as it was before it.
 ///
 /// More variants will come, as later versions of the library have further
 /// numbers. Until this crate names one, it is [`CallFault::Other`].
@@ -175,6 +176,8 @@ pub enum CallFault {
     Incoherent,
     /// 13: more entries than a batch may have.
     TooLong,
+    /// 14: a lent buffer that is too short. It is as it was before.
+    NoRoom,
     /// A number that this crate has no name for yet.
     Other(u8),
 }
@@ -196,6 +199,7 @@ impl CallFault {
             11 => CallFault::NotClosed,
             12 => CallFault::Incoherent,
             13 => CallFault::TooLong,
+            14 => CallFault::NoRoom,
             _ => CallFault::Other(number),
         }
     }
@@ -209,6 +213,7 @@ impl CallFault {
             CallFault::NotClosed => 11,
             CallFault::Incoherent => 12,
             CallFault::TooLong => 13,
+            CallFault::NoRoom => 14,
             CallFault::Other(number) => number,
         }
     }
@@ -225,6 +230,7 @@ impl fmt::Display for CallFault {
                 out.write_str("the bytes are not those of a state that hangs together")
             }
             CallFault::TooLong => out.write_str("more entries than a batch may have"),
+            CallFault::NoRoom => out.write_str("a lent buffer that is too short"),
             CallFault::Other(number) => write!(out, "turned down by number {number}"),
         }
     }

@@ -4,9 +4,10 @@
 //! reported to it, closes steps and winds up; it may store the state's 384 bytes
 //! after each call and go on from them after a restart. Replies that come together
 //! are handed in together, by [`State::submit_all`]. What an event would settle can be
-//! asked before it is handed in, by [`State::preview`]. [`run`] makes a whole list of
-//! calls on a sheet in one go. What sheets and calls are, byte by byte, and what
-//! each call does is in the repository's README.
+//! asked before it is handed in, by [`State::preview`]. The sheet that a colleague is to
+//! start from is written by [`State::to_sheet`]. [`run`] makes a whole list of calls on a
+//! sheet in one go. What sheets and calls are, byte by byte, and what each call does is
+//! in the repository's README.
 //!
 //! ```
 //! use sinewhopa::{Fate, State};
@@ -51,6 +52,9 @@ pub const LONGEST_REPORT: usize = 320;
 
 /// No batch has more entries.
 pub const LONGEST_BATCH: usize = 64;
+
+/// No sheet that is written is longer.
+pub const LONGEST_SHEET: usize = 113;
 
 /// Runs a list of calls on a sheet and gives the report, which is what the runner
 /// prints. Any bytes may be given as either.

@@ -2,7 +2,7 @@
 
 use crate::layout::{self, row};
 use crate::{filled, raw, Answer, Call, CallFault, Fate, Preview, SheetFault};
-use crate::{LONGEST_BATCH, STATE_LEN};
+use crate::{LONGEST_BATCH, LONGEST_SHEET, STATE_LEN};
 use std::fmt;
 
 /// The state of one plan: what its sheet declares, what has become of each event,
@@ -307,6 +307,74 @@ impl State {
     /// ```
     pub fn report(&self, refused: usize) -> Vec<u8> {
         filled(|out| raw::report(&self.bytes, refused, out))
+    }
+
+    /// The state written out as a sheet, to be passed on: its events, then its rules,
+    /// whatever calls have been made. [`State::open`] reads it as the first state with
+    /// the same events and rules. Sheets that declare these, numbered alike, are all
+    /// written as the same bytes.
+    ///
+    /// ```
+    /// use sinewhopa::State;
+    ///
+    /// // Four events at once, and a rule before the last event.
+    /// let sheet = [6, 0, 2, 0, 2, 1, 1, 6, 5];
+    /// let mut state = State::open(&sheet)?;
+    /// state.submit(4)?;
+    /// let passed_on = state.to_sheet()?;
+    /// let events = [1, 0, 7, 1, 0, 0, 1, 0, 6, 1, 0, 1, 1, 1, 6];
+    /// assert_eq!(passed_on, [&events[..], &[2, 0, 2], &[5]].concat());
+    ///
+    /// let colleague = State::open(&passed_on)?;
+    /// assert_eq!(colleague, State::open(&sheet)?);
+    /// assert_eq!(colleague.to_sheet()?, passed_on);
+    /// # Ok::<(), Box<dyn std::error::Error>>(())
+    /// ```
+    pub fn to_sheet(&self) -> Result<Vec<u8>, CallFault> {
+        let mut out = vec![0; LONGEST_SHEET];
+        let length = self.write_sheet(&mut out)?;
+        out.truncate(length);
+        Ok(out)
+    }
+
+    /// Writes what [`State::to_sheet`] gives at the start of `out`, and gives its length.
+    /// Bytes of `out` beyond it stay as they were. All of them do where `out` is too
+    /// short, with [`CallFault::NoRoom`]: [`State::sheet_length`] says how many bytes it
+    /// has to have, and [`LONGEST_SHEET`] are always enough.
+    ///
+    /// ```
+    /// use sinewhopa::{CallFault, State};
+    ///
+    /// let state = State::open(&[1, 3, 6, 5])?;
+    /// let mut out = [9; 6];
+    /// assert_eq!(state.write_sheet(&mut out[..3]), Err(CallFault::NoRoom));
+    /// assert_eq!(out, [9; 6]);
+    /// assert_eq!(state.write_sheet(&mut out), Ok(4));
+    /// assert_eq!(out, [1, 3, 6, 5, 9, 9]);
+    /// # Ok::<(), sinewhopa::SheetFault>(())
+    /// ```
+    pub fn write_sheet(&self, out: &mut [u8]) -> Result<usize, CallFault> {
+        let (number, length) = raw::write_sheet(&self.bytes, out);
+        taken(number)?;
+        Ok(length)
+    }
+
+    /// How many bytes [`State::write_sheet`] writes, without writing them: from 1, of a
+    /// state without events, to [`LONGEST_SHEET`].
+    ///
+    /// ```
+    /// use sinewhopa::State;
+    ///
+    /// assert_eq!(State::open(&[5])?.sheet_length()?, 1);
+    /// assert_eq!(State::open(&[6, 0, 5])?.sheet_length()?, 13); // four events, and the end
+    /// # Ok::<(), Box<dyn std::error::Error>>(())
+    /// ```
+    pub fn sheet_length(&self) -> Result<usize, CallFault> {
+        match raw::write_sheet(&self.bytes, &mut []) {
+            // No sheet is empty, so that this is the answer to an empty buffer.
+            (number, length) if number == CallFault::NoRoom.number() => Ok(length),
+            (number, length) => taken(number).map(|()| length),
+        }
     }
 
     fn fates(&self) -> &[u8] {

@@ -3,15 +3,10 @@
 
 mod common;
 
-use common::{open, Numbers, PARTIES};
+use common::{changes, open, Bytes, Numbers, FATE, PARTIES};
 use sinewhopa::raw::{self, Entry, CLOSE_STEP, HAND_IN};
-use sinewhopa::{Answer, Call, CallFault, Fate, State, LONGEST_BATCH, STATE_LEN};
+use sinewhopa::{Answer, Call, CallFault, Fate, State, LONGEST_BATCH};
 use std::collections::BTreeSet;
-
-type Bytes = [u8; STATE_LEN];
-
-/// Where a state's bytes have the fates.
-const FATE: usize = 100;
 
 /// Four steps: 1 after 0, and only if 0; 2 only if 0; 4 only if 3, of the same step.
 const SHEET: &[u8] = &[
@@ -273,22 +268,18 @@ fn damaged_bytes_are_turned_down_first() {
     let mut state = open(SHEET);
     assert_eq!(state.submit(1), Ok(Fate::Held));
     assert_eq!(state.close_step(3), Ok(()));
-    for place in 0..STATE_LEN {
-        for value in 0..=255 {
-            let mut bytes = *state.as_bytes();
-            bytes[place] = value;
-            if raw::check(&bytes) == 0 {
-                turned_down(&bytes, &lists[4], 13);
-                taken(&mut bytes, &rows);
+    for (_, value, mut bytes) in changes(state.as_bytes()) {
+        if raw::check(&bytes) == 0 {
+            turned_down(&bytes, &lists[4], 13);
+            taken(&mut bytes, &rows);
+        } else {
+            // Every length for one value at each place, two for the others.
+            let tried = if value == 255 {
+                &lists[..]
             } else {
-                // Every length for one value at each place, two for the others.
-                let tried = if value == 255 {
-                    &lists[..]
-                } else {
-                    &lists[3..5]
-                };
-                tried.iter().for_each(|list| turned_down(&bytes, list, 12));
-            }
+                &lists[3..5]
+            };
+            tried.iter().for_each(|list| turned_down(&bytes, list, 12));
         }
     }
 }

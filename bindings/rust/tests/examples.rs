@@ -1,4 +1,4 @@
-//! The examples of a batch and of a preview print what the same hosts in C print.
+//! The examples of a batch, a preview and a sheet print what the same hosts in C print.
 
 #[allow(dead_code)]
 #[path = "../examples/batch.rs"]
@@ -6,6 +6,9 @@ mod batch;
 #[allow(dead_code)]
 #[path = "../examples/preview.rs"]
 mod preview;
+#[allow(dead_code)]
+#[path = "../examples/sheet.rs"]
+mod sheet;
 
 use std::error::Error;
 
@@ -26,4 +29,10 @@ fn a_morning_is_told_as_in_c() {
 fn what_would_be_settled_is_told_as_in_c() {
     let in_c = include_str!("../../../examples/preview/stdout");
     assert_eq!(told(|out| preview::run(out)), in_c);
+}
+
+#[test]
+fn a_sheet_passed_on_is_told_as_in_c() {
+    let in_c = include_str!("../../../examples/sheet/stdout");
+    assert_eq!(told(|out| sheet::run(out)), in_c);
 }

@@ -1,5 +1,8 @@
 //! Faults, fates and bytes of any number: nothing panics, and nothing is lost.
 
+mod common;
+
+use common::changes;
 use sinewhopa::{CallFault, Fate, SheetFault, State, STATE_LEN};
 use std::error::Error;
 
@@ -21,7 +24,7 @@ fn every_number_has_a_fault_and_a_fate() {
         let call = CallFault::from_number(number);
         assert_eq!(call.number(), number);
         assert!(!call.to_string().is_empty());
-        let named = number == 2 || (9..=13).contains(&number);
+        let named = number == 2 || (9..=14).contains(&number);
         assert_eq!(matches!(call, CallFault::Other(_)), !named);
         let fate = Fate::from_number(number);
         assert_eq!((fate.number(), fate.is_settled()), (number, number > 1));
@@ -87,17 +90,13 @@ fn calls_are_turned_down() {
 fn changed_bytes_are_no_state_or_one_that_works() {
     let good = state();
     let mut passed = 0;
-    for place in 0..STATE_LEN {
-        for value in 0..=255 {
-            let mut bytes = *good.as_bytes();
-            bytes[place] = value;
-            match State::from_bytes(&bytes) {
-                Ok(changed) => {
-                    passed += 1;
-                    works(changed);
-                }
-                Err(fault) => assert_eq!(fault, CallFault::Incoherent),
+    for (_, _, bytes) in changes(good.as_bytes()) {
+        match State::from_bytes(&bytes) {
+            Ok(changed) => {
+                passed += 1;
+                works(changed);
             }
+            Err(fault) => assert_eq!(fault, CallFault::Incoherent),
         }
     }
     // The byte as it was, at each place; and others, but not nearly all.

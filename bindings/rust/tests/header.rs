@@ -1,7 +1,8 @@
 //! The numbers here are those of the C header.
 
 use sinewhopa::raw::{self, Entry, CLOSE_STEP, HAND_IN};
-use sinewhopa::{CallFault, Fate, SheetFault, State, LONGEST_BATCH, LONGEST_REPORT, STATE_LEN};
+use sinewhopa::{CallFault, Fate, SheetFault, State, STATE_LEN};
+use sinewhopa::{LONGEST_BATCH, LONGEST_REPORT, LONGEST_SHEET};
 use std::collections::BTreeMap;
 use std::mem::{offset_of, size_of};
 
@@ -26,6 +27,7 @@ fn numbers_are_the_headers() {
     let rows = [
         ("REPORT_MOST", LONGEST_REPORT),
         ("BATCH_MOST", LONGEST_BATCH),
+        ("SHEET_MOST", LONGEST_SHEET),
         ("HAND_IN", HAND_IN.into()),
         ("CLOSE_STEP", CLOSE_STEP.into()),
         ("ADDED_DONE", raw::ADDED_DONE),
@@ -57,6 +59,7 @@ fn numbers_are_the_headers() {
         ("NOT_CLOSED", CallFault::NotClosed.number().into()),
         ("INCOHERENT", CallFault::Incoherent.number().into()),
         ("TOO_LONG", CallFault::TooLong.number().into()),
+        ("NO_ROOM", CallFault::NoRoom.number().into()),
     ];
     for (name, number) in rows {
         assert_eq!(constants.get(name), Some(&number), "{name}");

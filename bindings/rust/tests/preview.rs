@@ -3,17 +3,13 @@
 
 mod common;
 
-use common::{open, Numbers, PARTIES};
+use common::{changes, open, Bytes, Numbers, FATE, PARTIES};
 use sinewhopa::raw::{self, ADDED_COUNTS, ADDED_DONE, ADDED_LAPSED, ADDED_REFUSED};
 use sinewhopa::{Call, CallFault, Fate, Preview, State, STATE_LEN};
 use std::collections::BTreeSet;
 
-type Bytes = [u8; STATE_LEN];
-
-/// Where a state's bytes have how many lines there are, the fates of events, and those
-/// of lines.
+/// Where a state's bytes have how many lines there are, and the fates of lines.
 const LINES: usize = 3;
-const FATE: usize = 100;
 const LINE_FATE: usize = 156;
 
 /// 0 and 2 come as they come. 1 after 0, and only if 0 and 2; 3, of 2's step, only if 2,
@@ -213,39 +209,24 @@ fn damaged_bytes_are_turned_down_first() {
     assert_eq!(state.submit(3), Ok(Fate::Held));
     assert_eq!(state.close_step(3), Ok(()));
     let (mut passed, mut damaged) = (0, 0);
-    for place in 0..STATE_LEN {
-        for value in 0..=255 {
-            let mut bytes = *state.as_bytes();
-            bytes[place] = value;
-            match State::from_bytes(&bytes) {
-                Ok(changed) => {
-                    passed += 1;
-                    for event in 0..=16 {
-                        let unknown = asked(&changed, event).is_err();
-                        assert_eq!(unknown, event >= changed.event_count());
-                    }
+    for (place, value, bytes) in changes(state.as_bytes()) {
+        match State::from_bytes(&bytes) {
+            Ok(changed) => {
+                passed += 1;
+                for event in 0..=16 {
+                    let unknown = asked(&changed, event).is_err();
+                    assert_eq!(unknown, event >= changed.event_count());
                 }
-                Err(_) => {
-                    damaged += 1;
-                    let numbers = [0, 2, 5, 255].map(|event| asked_raw(&bytes, event).0);
-                    assert_eq!(numbers, [12; 4], "{value} at {place}");
-                }
+            }
+            Err(_) => {
+                damaged += 1;
+                let numbers = [0, 2, 5, 255].map(|event| asked_raw(&bytes, event).0);
+                assert_eq!(numbers, [12; 4], "{value} at {place}");
             }
         }
     }
     // The byte as it was, at each place; and others, but not nearly all.
     assert!(passed > STATE_LEN && damaged > 2 * passed, "{passed}");
-}
-
-impl Numbers {
-    /// One more call, turned down or not.
-    fn call(&mut self, state: &mut State) {
-        let _ = match self.below(8) {
-            0 => state.close_step(self.below(4)),
-            1 => state.finish(),
-            _ => state.submit(self.below(11)).map(|_| ()),
-        };
-    }
 }
 
 /// Lists of calls, with every event asked about before each of them.

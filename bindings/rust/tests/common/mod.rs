@@ -1,7 +1,14 @@
-//! What the tests of batches and of previews share: a sheet, and numbers for random
-//! lists.
+//! What tests share: a state's bytes and every change of one of them, a sheet, and
+//! numbers for random lists.
 
-use sinewhopa::State;
+#![allow(dead_code)] // not every test needs all of it
+
+use sinewhopa::{State, STATE_LEN};
+
+pub type Bytes = [u8; STATE_LEN];
+
+/// Where a state's bytes have the fates of events.
+pub const FATE: usize = 100;
 
 /// Two parties that commit only together, each after it has prepared; and an event
 /// that cannot be stopped and needs one that may be brought about.
@@ -15,6 +22,16 @@ pub fn open(sheet: &[u8]) -> State {
     State::open(sheet).expect("a sheet")
 }
 
+/// The bytes with every value at every place: the place, the value and all the bytes.
+pub fn changes(bytes: &Bytes) -> impl Iterator<Item = (usize, u8, Bytes)> + '_ {
+    let places = (0..STATE_LEN).flat_map(|place| (0..=255).map(move |value| (place, value)));
+    places.map(|(place, value)| {
+        let mut changed = *bytes;
+        changed[place] = value;
+        (place, value, changed)
+    })
+}
+
 /// Numbers that look like any, the same in every run.
 pub struct Numbers(pub u64);
 
@@ -23,5 +40,14 @@ impl Numbers {
         let stepped = self.0.wrapping_mul(6_364_136_223_846_793_005);
         self.0 = stepped.wrapping_add(1_442_695_040_888_963_407);
         ((self.0 >> 33) % end) as u8
+    }
+
+    /// One more call, turned down or not.
+    pub fn call(&mut self, state: &mut State) {
+        let _ = match self.below(8) {
+            0 => state.close_step(self.below(4)),
+            1 => state.finish(),
+            _ => state.submit(self.below(11)).map(|_| ()),
+        };
     }
 }
