@@ -21,19 +21,23 @@ use Rattle.plan.specs.Sheets.{PlanReading, whole, faulty, readFrom, readPlan, e
 use Rattle.scheduler.specs.Sheet.{admitted, readSheet}
 use Rattle.plan.proofs.Tests.{and-left, and-right, or-left, or-right}
 use Rattle.plan.proofs.Tables.{no-row}
-use Rattle.plan.proofs.Arrays.{length-store, read-same, read-other}
+use Rattle.plan.proofs.Arrays.{length-store, read-same, read-other, read-blank}
 use Rattle.plan.proofs.FaultlessRecords.{Faultless, faultless}
 
--- a plan as far as it is read
-record Read (p : Plan) : Type 0 where
-  events-len : length (p .events) ≡ 16
-  rules-len : length (p .rules) ≡ 16
-  sound : Sound p
+-- a plan as far as it is read: blanks stand past its counts
+pub record Read (p : Plan) : Type 0 where
+  pub events-len : length (p .events) ≡ 16
+  pub rules-len : length (p .rules) ≡ 16
+  pub events-blank : (e : ℕ) → eventCount p ≤ e → eventAt p e ≡ blankEvent
+  pub rules-blank : (i : ℕ) → ruleCount p ≤ i → ruleAt p i ≡ blankRule .rule
+  pub sound : Sound p
 
 read-empty : Read emptyPlan
 read-empty = record {
   events-len = refl;
   rules-len = refl;
+  events-blank = λ e l. read-blank 16 blankEvent e;
+  rules-blank = λ i l. ap (λ (v : RuleLine). v .rule) (read-blank 16 blankRule i);
   sound = record {
     few-events = omega arith;
     few-rules = omega arith;
@@ -108,6 +112,8 @@ module _ (p : Plan) (k a : ℕ) (r : Read p) (room : eventCount p < 16) where
   read-event hk ha = record {
     events-len = length-store 16 (p .events) (eventCount p) _ ∙ r .events-len;
     rules-len = r .rules-len;
+    events-blank = λ e l. old-event e (omega arith) ∙ r .events-blank e (omega arith);
+    rules-blank = r .rules-blank;
     sound = record {
       few-events = omega arith;
       few-rules = r .sound .few-rules;
@@ -151,6 +157,8 @@ module _ (p : Plan) (u : Rule) (r : Read p) (room : ruleCount p < 16) (n : named
   read-rule = record {
     events-len = r .events-len;
     rules-len = length-store 16 (p .rules) (ruleCount p) _ ∙ r .rules-len;
+    events-blank = r .events-blank;
+    rules-blank = λ i l. old-rule i (omega arith) ∙ r .rules-blank i (omega arith);
     sound = record {
       few-events = r .sound .few-events;
       few-rules = omega arith;
@@ -271,7 +279,7 @@ sheet-plan b s h = go (sheetPlan b) refl
 pub sheet-first : (b : List ℕ) (s : State) → readSheet b ≡ admitted s → s ≡ firstState (s .plan)
 sheet-first b s h = let e = sheet-plan b s h .first in e ∙ ap (λ (t : State). firstState (t .plan)) (sym e)
 
-sheet-read : (b : List ℕ) (s : State) → readSheet b ≡ admitted s → Read (s .plan)
+pub sheet-read : (b : List ℕ) (s : State) → readSheet b ≡ admitted s → Read (s .plan)
 unfolding readPlan
 sheet-read b s h =
     let q = sheet-plan b s h in

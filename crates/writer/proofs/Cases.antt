@@ -12,7 +12,7 @@ use Rattle.plan.specs.Histories.{listedAs, fatesIn, anyDone, doneIn, doneInTurn
 use Rattle.plan.specs.Faults.{firstFault, answerNumber}
 use Rattle.plan.specs.Records.{ruleOf, addEvent, addRule, addEvents, declare, recordFault}
 use Rattle.plan.specs.Sheets.{sheetPlan, ending, readFrom, readPlan}
-use Rattle.plan.proofs.FormatCases.{times, sixteenEvents}
+use Rattle.plan.proofs.FormatCases.{times}
 use Rattle.scheduler.specs.State.{firstState, emptyState, hold, settleAs, shut, breakRule}
 use Rattle.scheduler.specs.Rules.{barred, forbidden, owing, strains}
 use Rattle.scheduler.specs.Orders.{mayDo, doAll, orderOf, chosen}
@@ -101,7 +101,7 @@ written = refl
 
 -- the longest sheet: 16 events and 16 conditionals
 abbrev pub longest : List ℕ
-longest = sixteenEvents ++ times 16 (4 ∷ 0 ∷ 1 ∷ 2 ∷ []) ++ (5 ∷ [])
+longest = times 16 (1 ∷ 0 ∷ 7 ∷ []) ++ times 16 (4 ∷ 0 ∷ 1 ∷ 2 ∷ []) ++ (5 ∷ [])
 
 pub most : (sheetBytes (firstOn longest .plan) ≡ longest) × (length longest ≡ 113)
 unfolding tabulate named enforceable ruleOf addEvent addRule addEvents declare recordFault ending readFrom readPlan

@@ -1,6 +1,6 @@
 -- Plans with blanks past what they declare: how they are made, event after event and rule after rule, and what is read of
 -- them.
-use Prim.Native.Nat.{ℕ, suc, _+_, _-_, _≤_, _<_}
+use Prim.Native.Nat.{ℕ, zero, suc, _+_, _-_, _≤_, _<_}
 use native.Mathlib.Nat.{zero-add}
 use native.Mathlib.Omega.{arith}
 use borrow.Author.Tests.{lt-ltb}
@@ -8,14 +8,15 @@ use mathlib.Core.Bool.{true, cond}
 use mathlib.Core.List.{List, [], _∷_, _++_, map}
 use mathlib.Core.Path.{_≡_, refl, sym, _∙_, ap}
 use lib.Dec.{ltb}
-use lib.ListN.{length, getD, set, replicate, length-append, length-map, List·getD-append, List·getD-map}
-use lib.Seq.{set-at, append-snoc}
+use lib.ListN.{length, getD, take, drop, set, replicate, length-append, length-map, length-drop, length-replicate, take-append-drop, List·getD-append, List·getD-map}
+use lib.Seq.{set-at, append-snoc, length-take-le, getD-take, getD-drop, ext-getD}
 use Rattle.plan.specs.Base.{tabulate, readAt, storeAt}
 use Rattle.plan.specs.Plans.{blankEvent, blankRule, eventCount, ruleCount, eventAt, attributesOf, ruleAt}
 use Rattle.plan.specs.Rules.{named, enforceable}
 use Rattle.plan.specs.Records.{addEvent, addRule}
-use Rattle.plan.proofs.Arrays.{read-in}
+use Rattle.plan.proofs.Arrays.{read-in, get-blank}
 use Rattle.plan.proofs.RuleReads.{two-named, triple-named}
+use Rattle.theory.proofs.SheetPlans.{Read}
 use Rattle.theory.proofs.Observation.{length-tabulate, getD-tabulate, as-tabulate}
 use Rattle.writer.specs.Types.{Event, Rule, Order, Need, Conditional, RuleLine, Plan}
 use Rattle.writer.specs.Writing.{eventsOf, rulesOf, SameDeclared, plain}
@@ -43,6 +44,25 @@ module _ {A : Type 0} (blank : A) where
   padded-read l i few lt =
       read-in 16 (padded l) i blank (omega arith)
       ∙ List·getD-append l (replicate (16 - length l) blank) blank i lt
+
+-- an array of 16 places with blanks from the n-th on is what is read of its first n places, and blanks
+padded-array : {A : Type 0} (blank : A) (l : List A) (n : ℕ)
+    → length l ≡ 16
+    → n ≤ 16
+    → ((i : ℕ) → n ≤ i → readAt 16 l i blank ≡ blank)
+    → tabulate n 0 (λ i. readAt 16 l i blank) ++ replicate (16 - n) blank ≡ l
+padded-array {A} blank l n len few beyond =
+    (λ i. first i ++ rest i) ∙ take-append-drop n l
+  where
+    first : tabulate n 0 (λ i. readAt 16 l i blank) ≡ take n l
+    first =
+        sym (as-tabulate n (take n l) (λ i. readAt 16 l i blank) blank (length-take-le n l (omega arith)) (λ k lt. getD-take n l k blank lt ∙ sym (read-in 16 l k blank (omega arith))))
+
+    rest : replicate (16 - n) blank ≡ drop n l
+    rest =
+        ext-getD blank (replicate (16 - n) blank) (drop n l)
+        (length-replicate (16 - n) blank ∙ sym (length-drop n l ∙ ap (λ (k : ℕ). k - n) len))
+        (λ k lt. get-blank (16 - n) blank k ∙ sym (getD-drop n l k blank ∙ sym (read-in 16 l (n + k) blank (omega (arith, length-replicate (16 - n) blank))) ∙ beyond (n + k) (omega arith)))
 
 -- a rule in its place
 abbrev pub lineOf : Rule → RuleLine
@@ -147,3 +167,23 @@ same-enforced p q n same (Need a b) h = let t = two-named n a b _ h in rw (same 
 same-enforced p q n same (Conditional a b c) h =
     let t = triple-named n a b c h in
     rw (same a (t .first), same b (t .second), same c (t .third))
+
+-- lines of rules made from a function
+lines-made : (n i : ℕ) (g : ℕ → Rule) → map lineOf (tabulate n i g) ≡ tabulate n i (λ k. lineOf (g k))
+unfolding tabulate
+lines-made zero i g = refl
+lines-made (suc n) i g = ap (λ (l : List RuleLine). lineOf (g i) ∷ l) (lines-made n (suc i) g)
+
+-- a plan that a sheet gave is plain
+pub plain-is : (p : Plan) → Read p → plain p ≡ p
+plain-is p r = λ i. record {
+  events = padded-array blankEvent (p .events) (eventCount p) (r .events-len) (r .sound .few-events) (r .events-blank) i;
+  «event_count» = eventCount p;
+  rules = lines i;
+  «rule_count» = ruleCount p;
+}
+  where
+    lines : map lineOf (rulesOf p) ++ replicate (16 - ruleCount p) blankRule ≡ p .rules
+    lines =
+        ap (λ (l : List RuleLine). l ++ replicate (16 - ruleCount p) blankRule) (lines-made (ruleCount p) 0 (λ i. ruleAt p i))
+        ∙ padded-array blankRule (p .rules) (ruleCount p) (r .rules-len) (r .sound .few-rules) (λ i le. ap lineOf (r .rules-blank i le))

@@ -20,13 +20,15 @@ use Rattle.plan.proofs.SheetReading.{read-enough}
 use Rattle.scheduler.specs.State.{firstState}
 use Rattle.scheduler.specs.Coherent.{coherent}
 use Rattle.scheduler.specs.Sheet.{admitted, readSheet}
+use Rattle.theory.proofs.Demands.{admitted-coherent}
+use Rattle.theory.proofs.SheetPlans.{sheet-first, sheet-read}
 use Rattle.theory.proofs.SoundPlans.{Sound, rule-named, rule-enforced}
 use Rattle.theory.proofs.Coherence.{coherent-sound}
 use Rattle.theory.proofs.Observation.{length-tabulate, getD-tabulate}
 use Rattle.writer.specs.Types.{Standing, Event, Rule, RuleLine, Plan, Record, State, Reading}
 use Rattle.writer.specs.Writing.{eventsOf, rulesOf, eventRecord, ruleRecord, joined, sheetBytes, sheetLength, plain, SameDeclared, ReadBack}
 use Rattle.writer.proofs.Joining.{sheet-parts, sheet-short}
-use Rattle.writer.proofs.Padded.{lineOf, made, plain-made, plain-same, plain-attributes, same-enforced}
+use Rattle.writer.proofs.Padded.{lineOf, made, plain-made, plain-same, plain-attributes, same-enforced, plain-is}
 use Rattle.writer.proofs.ReadingBack.{Fine, drop-next, read-events, read-rules, read-end}
 
 -- what declares the same is written alike
@@ -121,6 +123,13 @@ read-back s h =
       all-open = λ e. ap (λ (x : Standing). x .fate) (read-blank 16 blankStanding e);
       short = sheet-short (s .plan) (sd .few-events) (sd .few-rules);
     }
+
+-- the first state of an admitted sheet, written and read, is that state again
+pub reopened : (sheet : List ℕ) (s : State) → readSheet sheet ≡ admitted s → readSheet (sheetBytes (s .plan)) ≡ admitted s
+reopened sheet s h =
+    read-back s (admitted-coherent sheet s h) .reads
+    ∙ ap (λ (p : Plan). admitted (firstState p)) (plain-is (s .plan) (sheet-read sheet s h))
+    ∙ ap admitted (sym (sheet-first sheet s h))
 
 -- what is written alike declares the same: nothing is lost
 pub alike-declared : (s t : State)
