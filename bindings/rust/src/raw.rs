@@ -190,7 +190,7 @@ pub fn preview(state: &[u8; STATE_LEN], event: u8, added: &mut [u8; ADDED_COUNTS
 /// assert_eq!(out, [1, 3, 6, 5, 9, 9, 9, 9]);
 /// ```
 pub fn write_sheet(state: &[u8; STATE_LEN], out: &mut [u8]) -> (u8, usize) {
-    let mut need = 0;
+    let mut need = usize::MAX;
     // SAFETY: `state` has the bytes of a state, which are only read; `out` has its length
     // and is not null; `out` and `need` are borrowed mutably, so nothing overlaps them.
     let number =
