@@ -2,8 +2,8 @@
 use Prim.Native.Nat.{ℕ, zero, suc, _+_, _≤_, _<_}
 use native.Mathlib.Omega.{arith}
 use native.Mathlib.Decide.{ℕ-discrete}
-use borrow.Author.Tests.{ltb-true, ltb-false, lt-ltb, eqb-false, not-false}
-use mathlib.Core.Bool.{Bool, true, false, not, _&&_, _||_}
+use borrow.Author.Tests.{ltb-true, lt-ltb, eqb-false, not-false}
+use mathlib.Core.Bool.{Bool, true, false, not, _&&_}
 use mathlib.Core.List.{List, [], _∷_}
 use mathlib.Core.Logic.{_≢_}
 use mathlib.Core.Option.{Option, none, some}
@@ -16,11 +16,10 @@ use Rattle.theory.proofs.SoundPlans.{Sound, rule-named, rule-enforced}
 use Rattle.plan.specs.Plans.{eventCount, ruleCount, eventAt, attributesOf, ruleAt, blankEvent, blankRule, emptyPlan}
 use Rattle.scheduler.specs.State.{firstState, emptyState}
 use Rattle.plan.specs.Rules.{badStep, badAttributes, named, enforceable, soundEvent, soundRule}
-use Rattle.plan.specs.Records.{bodyLength, newEvents, newRules, recordAt, ruleOf, addEvent, addRule, table1, addEvents, declare, isRule, recordFault}
+use Rattle.plan.specs.Records.{bodyLength, recordAt, ruleOf, addEvent, addRule, table1, addEvents, declare, isRule, recordFault}
 use Rattle.plan.specs.Sheets.{PlanReading, whole, faulty, readFrom, readPlan, ending, sheetPlan}
 use Rattle.scheduler.specs.Sheet.{admitted, readSheet}
-use Rattle.plan.proofs.Tests.{and-left, and-right, or-left, or-right}
-use Rattle.plan.proofs.Tables.{no-row}
+use Rattle.plan.proofs.Tests.{and-left, and-right}
 use Rattle.plan.proofs.Arrays.{length-store, read-same, read-other, read-blank}
 use Rattle.plan.proofs.FaultlessRecords.{Faultless, faultless}
 

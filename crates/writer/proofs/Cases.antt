@@ -4,7 +4,7 @@ use Prim.Native.Nat.{ℕ}
 use mathlib.Core.List.{List, [], _∷_, _++_, map}
 use mathlib.Core.Path.{_≡_, refl}
 use lib.ListN.{length, set}
-use Rattle.writer.specs.Types.{Submit, Close, Plan, State}
+use Rattle.writer.specs.Types.{Submit, Close, State}
 use Rattle.plan.specs.Base.{anyBelow, allBelow, firstOf, tabulate, lowest}
 use Rattle.plan.specs.Plans.{hasEvent}
 use Rattle.plan.specs.Rules.{named, enforceable, soundEvent, soundRule, bars, makesWait, forbids, owes, ready}
@@ -24,7 +24,7 @@ use Rattle.scheduler.specs.Sheet.{readSheet}
 use Rattle.scheduler.proofs.Cases.{sheetA, sheetD, sheetL, firstOn}
 use Rattle.pages.specs.Filled.{filled}
 use Rattle.image.specs.Layout.{imageOf, placeOk, isImage}
-use Rattle.writer.specs.Writing.{joined, sheetBytes, sheetLength, lengthGiven, lengthReply, writeFault, writeReply, bufferAfter}
+use Rattle.writer.specs.Writing.{joined, sheetBytes, writeFault, writeReply, bufferAfter}
 use Rattle.writer.specs.Kept.{writeNumberOn, needOn, bufferOn}
 
 -- what writing into a lent buffer comes to: the number, the length that is given, and the buffer
@@ -61,6 +61,10 @@ leftover = firstState (record {
   «rule_count» = 0;
 })
 
+-- the longest sheet: 16 events and 16 conditionals
+abbrev pub longest : List ℕ
+longest = times 16 (1 ∷ 0 ∷ 7 ∷ []) ++ times 16 (4 ∷ 0 ∷ 1 ∷ 2 ∷ []) ++ (5 ∷ [])
+
 abbrev pub cases : List Case
 cases =
     -- the empty state is the end record alone; the bytes beyond it stay
@@ -83,6 +87,8 @@ cases =
     ∷ (firstOn (6 ∷ 3 ∷ 5 ∷ []), own 13, 0, 13, 1 ∷ 3 ∷ 7 ∷ 1 ∷ 3 ∷ 0 ∷ 1 ∷ 3 ∷ 6 ∷ 1 ∷ 3 ∷ 1 ∷ 5 ∷ [])
     -- what stands past the counts is not written
     ∷ (leftover, own 5, 0, 4, 1 ∷ 0 ∷ 6 ∷ 5 ∷ 99 ∷ [])
+    -- 113 bytes are the most
+    ∷ (firstOn longest, own 113, 0, 113, longest)
     -- 12, and 12 before 14: event 0 is held and cannot wait
     ∷ (hold (firstOn sheetD) 0, own 10, 12, 0, own 10)
     ∷ (hold (firstOn sheetD) 0, own 9, 12, 0, own 9)
@@ -98,15 +104,6 @@ unfolding outcome tabulate anyBelow allBelow firstOf lowest hold settleAs shut b
     callFault accept call ruleOf addEvent addRule addEvents declare recordFault ending readFrom readPlan sheetPlan
     readSheet after filled joined sheetBytes writeFault writeReply bufferAfter
 written = refl
-
--- the longest sheet: 16 events and 16 conditionals
-abbrev pub longest : List ℕ
-longest = times 16 (1 ∷ 0 ∷ 7 ∷ []) ++ times 16 (4 ∷ 0 ∷ 1 ∷ 2 ∷ []) ++ (5 ∷ [])
-
-pub most : (sheetBytes (firstOn longest .plan) ≡ longest) × (length longest ≡ 113)
-unfolding tabulate named enforceable ruleOf addEvent addRule addEvents declare recordFault ending readFrom readPlan
-    sheetPlan readSheet firstFault joined sheetBytes
-most = (refl, refl)
 
 -- case A's image with the last spare byte set is no image: 12, no length, and nothing is written, whatever the buffer
 abbrev pub damagedA : List ℕ

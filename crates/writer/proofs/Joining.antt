@@ -1,5 +1,5 @@
 -- Records one after another: one more, and how many bytes they take.
-use Prim.Native.Nat.{ℕ, zero, suc, _+_, _*_, _≤_, _<_}
+use Prim.Native.Nat.{ℕ, zero, suc, _+_, _*_, _≤_}
 use native.Mathlib.Nat.{add-zero, zero-add}
 use native.Mathlib.Numerals.{add-one}
 use native.Mathlib.Omega.{arith}
@@ -45,7 +45,11 @@ module _ {A : Type 0} (f : A → List ℕ) where
 
     pub made-next : (n : ℕ) → joined f (tabulate (n + 1) 0 g) ≡ joined f (tabulate n 0 g) ++ f (g n)
     made-next n =
-        rw add-one (ap (joined f) (tabulate-next n 0) ∙ joined-append (tabulate n 0 g) (g (0 + n) ∷ []) ∙ ap (λ (l : List ℕ). joined f (tabulate n 0 g) ++ l) (joined-one (g (0 + n)) ∙ ap (λ (k : ℕ). f (g k)) (zero-add n)))
+        let last = joined-one (g (0 + n)) ∙ ap (λ (k : ℕ). f (g k)) (zero-add n) in
+        rw add-one
+        (ap (joined f) (tabulate-next n 0)
+        ∙ joined-append (tabulate n 0 g) (g (0 + n) ∷ [])
+        ∙ ap (λ (l : List ℕ). joined f (tabulate n 0 g) ++ l) last)
 
 -- an event takes three bytes, a rule three or four
 pub events-length : (vs : List Event) → length (joined eventRecord vs) ≡ 3 * length vs

@@ -11,7 +11,6 @@ use lib.ListN.{length}
 use Rattle.plan.specs.Faults.{answerNumber}
 use Rattle.plan.proofs.Tests.{either}
 use Rattle.scheduler.specs.State.{Sized}
-use Rattle.scheduler.specs.Coherent.{coherent}
 use Rattle.scheduler.specs.Answers.{call}
 use Rattle.scheduler.specs.Lists.{scheduler, after}
 use Rattle.scheduler.specs.Sheet.{readSheet, admitted}

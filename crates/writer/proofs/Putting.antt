@@ -2,8 +2,8 @@
 use Prim.Native.Nat.{ℕ, _+_, _*_, _≤_, _<_}
 use native.Mathlib.Omega.{arith}
 use mathlib.Core.List.{List, [], _∷_, _++_}
-use mathlib.Core.Path.{_≡_, refl, sym, _∙_, ap}
-use lib.ListN.{length, getD, length-append}
+use mathlib.Core.Path.{_≡_, sym, _∙_, ap}
+use lib.ListN.{length, getD}
 use Rattle.plan.specs.Base.{tabulate, readAt}
 use Rattle.plan.specs.Plans.{blankEvent, blankRule, eventCount, ruleCount}
 use Rattle.plan.proofs.Arrays.{read-in}
@@ -11,7 +11,7 @@ use Rattle.theory.proofs.Observation.{length-tabulate}
 use Rattle.pages.specs.Written.{Put}
 use Rattle.pages.proofs.Pages.{put-none, put-then, put-as, After, put-after}
 use Rattle.writer.specs.Types.{Event, Rule, RuleLine, Plan}
-use Rattle.writer.specs.Writing.{eventRecord, ruleRecord, joined, sheetBytes}
+use Rattle.writer.specs.Writing.{eventRecord, ruleRecord, sheetBytes}
 use Rattle.writer.specs.Internal.Records.{eventRecords, ruleRecords}
 use Rattle.writer.proofs.Joining.{made-none, made-next, events-length, rule-few, rules-few, sheet-parts}
 

@@ -1,32 +1,22 @@
 -- Reading what was written: record after record, events first, then rules, then the end record.
-use Prim.Native.Nat.{ℕ, suc, _+_, _-_, _≤_, _<_}
-use native.Mathlib.Nat.{suc-add, zero-add}
+use Prim.Native.Nat.{ℕ, suc, _+_, _≤_, _<_}
+use native.Mathlib.Nat.{suc-add, zero-add, add-zero}
 use native.Mathlib.Omega.{arith}
-use borrow.Author.Tests.{not-true, le-ltb}
 use mathlib.Core.Bool.{true, false, not}
 use mathlib.Core.List.{List, [], _∷_, _++_, map, append-assoc, append-nil}
 use mathlib.Core.Option.{none}
 use mathlib.Core.Path.{_≡_, refl, sym, _∙_, ap}
-use lib.Dec.{eqb, ltb}
+use lib.Dec.{eqb}
 use lib.ListN.{length, getD, drop, length-append, length-drop}
 use lib.Seq.{getD-drop, drop-drop, append-snoc, drop-append-seam}
-use Rattle.plan.specs.Plans.{blankEvent, blankRule, emptyPlan, eventCount, ruleCount, stepOf, attributesOf, eventAt, ruleAt}
-use Rattle.plan.specs.Rules.{badStep, badAttributes, named, enforceable, soundEvent, soundRule}
+use Rattle.plan.specs.Plans.{blankEvent, blankRule, eventCount, ruleCount}
+use Rattle.plan.specs.Rules.{badStep, badAttributes, named, enforceable}
 use Rattle.plan.specs.Records.{bodyLength, recordAt, ruleOf, addEvent, addRule, declare, recordFault}
-use Rattle.plan.specs.Sheets.{PlanReading, whole, readFrom, readPlan, ending, sheetPlan}
-use Rattle.plan.proofs.Tests.{and-left, and-right}
+use Rattle.plan.specs.Sheets.{whole, readFrom}
 use Rattle.plan.proofs.FaultlessRecords.{Faultless, no-fault}
-use Rattle.plan.proofs.SheetReading.{read-enough}
-use Rattle.scheduler.specs.State.{firstState}
-use Rattle.scheduler.specs.Coherent.{coherent}
-use Rattle.scheduler.specs.Sheet.{admitted, readSheet}
-use Rattle.theory.proofs.SoundPlans.{Sound, rule-named, rule-enforced}
-use Rattle.theory.proofs.Coherence.{coherent-sound}
-use Rattle.theory.proofs.Observation.{length-tabulate, getD-tabulate}
-use Rattle.writer.specs.Types.{Event, Rule, Order, Need, Conditional, RuleLine, Plan, Record, State}
-use Rattle.writer.specs.Writing.{eventsOf, rulesOf, eventRecord, ruleRecord, joined, sheetBytes, sheetLength, plain, SameDeclared, ReadBack}
-use Rattle.writer.proofs.Joining.{joined-none, joined-more, sheet-parts, sheet-short}
-use Rattle.writer.proofs.Padded.{lineOf, made, add-event, add-rule, plain-made, plain-same, plain-attributes, same-enforced}
+use Rattle.writer.specs.Types.{Event, Rule, Order, Need, Conditional, RuleLine, Plan, Record}
+use Rattle.writer.specs.Writing.{eventRecord, ruleRecord, joined}
+use Rattle.writer.proofs.Padded.{lineOf, made, add-event, add-rule}
 
 -- the record at the start of some bytes
 abbrev front : List ℕ → Record
@@ -206,22 +196,22 @@ module _ (b : List ℕ) where
       ≡ readFrom n b (at + length (joined eventRecord vs)) (made (es ++ vs) [])
   unfolding joined
   read-events [] es n at more h few fine =
-      λ i. readFrom (zero-add n i) b (omega-same i) (made (sym (append-nil es) i) [])
-    where
-      omega-same : at ≡ at + 0
-      omega-same = omega arith
+      λ i. readFrom (zero-add n i) b (sym (add-zero at) i) (made (sym (append-nil es) i) [])
   read-events (v ∷ vs) es n at more h few fine =
       let rest = joined eventRecord vs ++ more in
       let split = h ∙ append-assoc (eventRecord v) (joined eventRecord vs) more in
+      let here = front-at at (eventRecord v ++ rest) split in
       let inside = inside-at at (eventRecord v) rest split (omega arith) in
+      let next = at + 1 + 2 in
+      let onward = drop-next at (eventRecord v) rest next split (omega arith) in
       let p = made es [] in
       let size : length (es ++ (v ∷ [])) ≡ suc (length es) = omega (arith, length-append es (v ∷ [])) in
+      let faultless =
+      event-faultless p (length b) at (omega arith) (omega arith) v rest inside (omega arith) (fine 0 (omega arith)) in
       ap (λ (k : ℕ). readFrom k b at p) (suc-add (length vs) n)
-      ∙ read-on (length vs + n) at p (front (eventRecord v ++ rest)) (front-at at (eventRecord v ++ rest) split)
-      (event-faultless p (length b) at (omega arith) (omega arith) v rest inside (omega arith) (fine 0 (omega arith)))
-      refl
-      ∙ ap (λ (q : Plan). readFrom (length vs + n) b (at + 1 + 2) q) (event-declared p v rest ∙ add-event es [] v (omega arith))
-      ∙ read-events vs (es ++ (v ∷ [])) n (at + 1 + 2) more (drop-next at (eventRecord v) rest (at + 1 + 2) split (omega arith)) (omega arith) (λ k lt. fine (suc k) (omega arith))
+      ∙ read-on (length vs + n) at p (front (eventRecord v ++ rest)) here faultless refl
+      ∙ ap (λ (q : Plan). readFrom (length vs + n) b next q) (event-declared p v rest ∙ add-event es [] v (omega arith))
+      ∙ read-events vs (es ++ (v ∷ [])) n next more onward (omega arith) (λ k lt. fine (suc k) (omega arith))
       ∙ (λ i. readFrom n b (later i) (made (append-snoc es v vs i) []))
     where
       later : at + 1 + 2 + length (joined eventRecord vs) ≡ at + length (eventRecord v ++ joined eventRecord vs)
@@ -238,23 +228,26 @@ module _ (b : List ℕ) where
       ≡ readFrom n b (at + length (joined ruleRecord rs)) (made es (ls ++ map lineOf rs))
   unfolding joined
   read-rules [] es ls n at more h few-events few names holds =
-      λ i. readFrom (zero-add n i) b (omega-same i) (made es (sym (append-nil ls) i))
-    where
-      omega-same : at ≡ at + 0
-      omega-same = omega arith
+      λ i. readFrom (zero-add n i) b (sym (add-zero at) i) (made es (sym (append-nil ls) i))
   read-rules (r ∷ rs) es ls n at more h few-events few names holds =
       let rest = joined ruleRecord rs ++ more in
       let split = h ∙ append-assoc (ruleRecord r) (joined ruleRecord rs) more in
       let size = rule-size r rest in
+      let here = front-at at (ruleRecord r ++ rest) split in
       let inside = inside-at at (ruleRecord r) rest split (omega arith) in
-      let p = made es ls in
       let next = at + 1 + bodyLength (front (ruleRecord r ++ rest) .kind) in
+      let onward = drop-next at (ruleRecord r) rest next split (omega arith) in
+      let p = made es ls in
+      let room : length (ls ++ (lineOf r ∷ [])) + length rs ≤ 16 = omega (arith, length-append ls (lineOf r ∷ [])) in
+      let named-here = names 0 (omega arith) in
+      let faultless =
+      rule-faultless p (length b) at (omega arith) (omega arith) r rest inside (omega arith) named-here (holds 0 ls (omega arith)) in
+      let names-on : (k : ℕ) → k < length rs → named (length es) (getD rs k (blankRule .rule)) ≡ true =
+      λ k lt. names (suc k) (omega arith) in
       ap (λ (k : ℕ). readFrom k b at p) (suc-add (length rs) n)
-      ∙ read-on (length rs + n) at p (front (ruleRecord r ++ rest)) (front-at at (ruleRecord r ++ rest) split)
-      (rule-faultless p (length b) at (omega arith) (omega arith) r rest inside (omega arith) (names 0 (omega arith)) (holds 0 ls (omega arith)))
-      (rule-goes-on r rest)
+      ∙ read-on (length rs + n) at p (front (ruleRecord r ++ rest)) here faultless (rule-goes-on r rest)
       ∙ ap (λ (q : Plan). readFrom (length rs + n) b next q) (rule-declared p r rest ∙ add-rule es ls r (omega arith))
-      ∙ read-rules rs es (ls ++ (lineOf r ∷ [])) n next more (drop-next at (ruleRecord r) rest next split (omega arith)) few-events (omega (arith, length-append ls (lineOf r ∷ []))) (λ k lt. names (suc k) (omega arith)) (λ k ms lt. holds (suc k) ms (omega arith))
+      ∙ read-rules rs es (ls ++ (lineOf r ∷ [])) n next more onward few-events room names-on (λ k ms lt. holds (suc k) ms (omega arith))
       ∙ (λ i. readFrom n b (later i) (made es (append-snoc ls (lineOf r) (map lineOf rs) i)))
     where
       later : at + 1 + bodyLength (front (ruleRecord r ++ (joined ruleRecord rs ++ more)) .kind) + length (joined ruleRecord rs)

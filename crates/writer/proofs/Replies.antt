@@ -17,7 +17,7 @@ use Rattle.scheduler.specs.Coherent.{coherent}
 use Rattle.theory.proofs.Coherence.{coherent-sound}
 use Rattle.pages.specs.Filled.{filled}
 use Rattle.pages.proofs.Copied.{filled-short}
-use Rattle.writer.specs.Types.{CallFault, Incoherent, NoRoom, Answer, Made, TurnedDown, State, SheetReply}
+use Rattle.writer.specs.Types.{CallFault, Incoherent, NoRoom, Made, State, SheetReply}
 use Rattle.writer.specs.Writing.{sheetBytes, sheetLength, lengthGiven, lengthReply, writeFault, writeReply, bufferAfter}
 use Rattle.writer.specs.Internal.Records.{refusal}
 use Rattle.writer.proofs.Joining.{sheet-short}

@@ -1,19 +1,18 @@
 -- The theorems on written sheets: what is written is admitted with the same events and rules and written again as the same
 -- bytes; what declares the same is written alike, and only that; a record of kind 6 declares what four of kind 1 do.
-use Prim.Native.Nat.{ℕ, suc, _+_, _≤_, _<_}
+use Prim.Native.Nat.{ℕ, suc, _+_, _<_}
 use native.Mathlib.Nat.{zero-add}
 use native.Mathlib.Omega.{arith}
 use borrow.Author.Tests.{not-true, le-ltb}
-use mathlib.Core.Bool.{true, false, not}
+use mathlib.Core.Bool.{true, not}
 use mathlib.Core.List.{List, [], _∷_, _++_, map}
 use mathlib.Core.Path.{_≡_, refl, sym, _∙_, ap}
-use lib.Dec.{ltb}
 use lib.ListN.{length, getD, length-append, length-map}
-use Rattle.plan.specs.Plans.{blankEvent, blankRule, emptyPlan, eventCount, ruleCount, eventAt, ruleAt, stepOf, attributesOf}
+use Rattle.plan.specs.Plans.{blankEvent, blankRule, eventCount, ruleCount, eventAt, ruleAt, stepOf, attributesOf}
 use Rattle.plan.specs.Fates.{blankStanding}
 use Rattle.plan.specs.Rules.{badStep, badAttributes, named, enforceable, soundEvent}
-use Rattle.plan.specs.Records.{addEvent, addEvents, declare}
-use Rattle.plan.specs.Sheets.{PlanReading, whole, readFrom, readPlan, ending, sheetPlan}
+use Rattle.plan.specs.Records.{addEvents, declare}
+use Rattle.plan.specs.Sheets.{whole, readPlan, ending, sheetPlan}
 use Rattle.plan.proofs.Arrays.{read-blank}
 use Rattle.plan.proofs.Tests.{and-left, and-right}
 use Rattle.plan.proofs.SheetReading.{read-enough}

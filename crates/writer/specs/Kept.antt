@@ -4,7 +4,6 @@ use mathlib.Core.Bool.{cond}
 use mathlib.Core.List.{List}
 use mathlib.Core.Path.{_≡_}
 use lib.Dec.{ltb}
-use lib.ListN.{length}
 use Rattle.writer.specs.Types.{Call, State}
 use Rattle.plan.specs.Faults.{answerNumber}
 use Rattle.pages.specs.Filled.{filled}

@@ -5,7 +5,7 @@ use plan::event::Event;
 use plan::plan::Plan;
 use plan::rule::Rule;
 use plan::rule::RuleLine;
-ghost use Prim.Native.Nat.{_+_, _*_, _≤_};
+ghost use Prim.Native.Nat.{_+_, _≤_};
 ghost use Rattle.plan.specs.Plans.{eventCount, ruleCount};
 ghost use Rattle.pages.specs.Written.{Put};
 ghost use Rattle.writer.specs.Writing.{ruleRecord, sheetBytes};

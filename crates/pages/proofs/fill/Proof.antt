@@ -34,7 +34,14 @@ loop-less c = omega arith
 
 loop-again : tie.Need-loop-again Inv-loop μ-loop
 loop-again c =
-    (omega arith, ap (λ (l : List ℕ). set l (c .before .before .loop .i) (getD (c .before .before .before .before .args .text .now) (c .before .before .loop .i) 0)) (c .before .before .loop .inv .1) ∙ copy-next _ _ (c .before .before .before .if1 .left) (c .before .before .loop .i) (c .before .loop-test .taken), length-set (c .before .before .loop .out) (c .before .before .loop .i) (getD (c .before .before .before .before .args .text .now) (c .before .before .loop .i) 0) ∙ c .before .before .loop .inv .2)
+    let turn = c .before .before in
+    let i = turn .loop .i in
+    let byte = getD (turn .before .before .args .text .now) i 0 in (
+      omega arith,
+      ap (λ (l : List ℕ). set l i byte) (turn .loop .inv .1)
+          ∙ copy-next _ _ (turn .before .if1 .left) i (c .before .loop-test .taken),
+      length-set (turn .loop .out) i byte ∙ turn .loop .inv .2,
+    )
 
 same-length : tie.Need-same-length Inv-loop μ-loop
 same-length c = c .before .loop .inv .2

@@ -42,7 +42,8 @@ loop-less c = omega arith
 
 loop-again : tie.Need-loop-again Inv-loop μ-loop
 loop-again c =
-    (omega arith, events-next (c .before .before .before .before .before .before .args .t2) (c .before .before .before .before .before .loop .i) (omega arith) (c .before .before .before .before .before .loop .inv .1) (c .put-bytes .ensures))
+    let turn = c .before .before .before .before .before in
+    (omega arith, events-next (turn .before .args .t2) (turn .loop .i) (omega arith) (turn .loop .inv .1) (c .put-bytes .ensures))
 
 returns : tie.Need-returns Inv-loop μ-loop
 returns c =

@@ -40,7 +40,8 @@ loop-less c = omega arith
 
 loop-again : tie.Need-loop-again Inv-loop μ-loop
 loop-again c =
-    (omega arith, rules-next (c .before .before .before .before .before .args .t3) (c .before .before .before .before .loop .i) (omega arith) (c .before .before .before .before .loop .inv .1) (c .put-rule .ensures))
+    let turn = c .before .before .before .before in
+    (omega arith, rules-next (turn .before .args .t3) (turn .loop .i) (omega arith) (turn .loop .inv .1) (c .put-rule .ensures))
 
 returns : tie.Need-returns Inv-loop μ-loop
 returns c =
