@@ -1,4 +1,4 @@
--- The reader's budget suffices: more changes nothing.
+-- The branches of reading record after record; and the reader's budget suffices: more changes nothing.
 use Prim.Native.Nat.{ℕ, zero, suc, _+_, _<_}
 use native.Mathlib.Omega.{arith}
 use mathlib.Core.Bool.{true, false}
@@ -8,11 +8,30 @@ use mathlib.Core.Path.{_≡_, refl, sym, ap}
 use borrow.Author.Tests.{le-leb}
 use lib.Dec.{eqb}
 use lib.ListN.{length, getD}
-use Rattle.plan.specs.Prelude.{Plan, Cut}
+use Rattle.plan.specs.Prelude.{Plan, Record, SheetFault, Cut}
 use Rattle.plan.specs.Plans.{emptyPlan}
 use Rattle.plan.specs.Faults.{firstFault}
 use Rattle.plan.specs.Records.{bodyLength, recordAt, declare, recordFault}
 use Rattle.plan.specs.Sheets.{PlanReading, whole, faulty, readFrom, readPlan}
+
+-- the branches of `readFrom`
+module _ (n : ℕ) (b : List ℕ) (at : ℕ) (p : Plan) where
+  abbrev here : Record
+  here = recordAt b at
+
+  pub read-fault : (f : SheetFault) → recordFault p (length b) at here ≡ some f → readFrom (suc n) b at p ≡ faulty f at
+  unfolding readFrom
+  read-fault f h = rw (h, readFrom)
+
+  pub read-end : recordFault p (length b) at here ≡ none → eqb (here .kind) 5 ≡ true
+      → readFrom (suc n) b at p ≡ whole p (at + 1)
+  unfolding readFrom
+  read-end h k = rw (h, k, readFrom)
+
+  pub read-next : recordFault p (length b) at here ≡ none → eqb (here .kind) 5 ≡ false
+      → readFrom (suc n) b at p ≡ readFrom n b (at + 1 + bodyLength (here .kind)) (declare p here)
+  unfolding readFrom
+  read-next h k = rw (h, k, readFrom)
 
 -- past the sheet's end there is no record
 past-sheet : (n : ℕ) (b : List ℕ) (at : ℕ) (p : Plan) → length b < at → readFrom n b at p ≡ faulty Cut at

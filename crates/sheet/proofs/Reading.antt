@@ -13,7 +13,7 @@ use Rattle.plan.specs.Plans.{emptyPlan}
 use Rattle.plan.specs.Records.{bodyLength, recordAt, declare, recordFault}
 use Rattle.plan.specs.Sheets.{whole, faulty, readFrom, readPlan, ending, sheetPlan}
 use Rattle.plan.proofs.Tests.{clash, either}
-use Rattle.plan.proofs.SheetReading.{read-enough}
+use Rattle.plan.proofs.SheetReading.{read-enough, read-fault, read-end, read-next}
 use Rattle.scheduler.specs.Sheet.{readSheet}
 use Rattle.sheet.specs.Types.{Plan, Record, SheetFault, Extra, Admitted, Faulty, Judged}
 use Rattle.sheet.specs.Internal.Progress.{endVerdict, judge, readingOf}
@@ -22,25 +22,6 @@ use Rattle.sheet.proofs.RecordLaws.{place-inside}
 use Rattle.plan.proofs.FaultlessRecords.{faultless}
 use Rattle.sheet.proofs.Rooms.{Room, room}
 use Rattle.sheet.proofs.ProgressLaws.{judge-fault, judge-end, judge-next}
-
--- the branches of `readFrom`
-module _ (n : ℕ) (b : List ℕ) (at : ℕ) (p : Plan) where
-  abbrev here : Record
-  here = recordAt b at
-
-  read-fault : (f : SheetFault) → recordFault p (length b) at here ≡ some f → readFrom (suc n) b at p ≡ faulty f at
-  unfolding readFrom
-  read-fault f h = rw (h, readFrom)
-
-  read-end : recordFault p (length b) at here ≡ none → eqb (here .kind) 5 ≡ true
-      → readFrom (suc n) b at p ≡ whole p (at + 1)
-  unfolding readFrom
-  read-end h k = rw (h, k, readFrom)
-
-  read-next : recordFault p (length b) at here ≡ none → eqb (here .kind) 5 ≡ false
-      → readFrom (suc n) b at p ≡ readFrom n b (at + 1 + bodyLength (here .kind)) (declare p here)
-  unfolding readFrom
-  read-next h k = rw (h, k, readFrom)
 
 -- what the sheet comes to, by what it comes to with the bytes after kind 5
 module _ (b : List ℕ) (p : Plan) where

@@ -11,15 +11,15 @@ use mathlib.Core.Path.{_≡_, refl, sym, _∙_, ap, subst}
 use lib.Dec.{eqb, ltb}
 use lib.ListN.{length, getD}
 use Rattle.theory.proofs.Types.{Event, Rule, Order, Need, Conditional, RuleLine, Plan, Record, State, SheetFault, Admitted, Faulty, Reading}
-use Rattle.theory.proofs.Conjunctions.{and-three}
-use Rattle.theory.proofs.SoundPlans.{Sound, rule-named, rule-enforced}
+use Rattle.theory.proofs.Conjunctions.{and-three, and-four}
+use Rattle.theory.proofs.SoundPlans.{Sound, rule-named, rule-enforced, same-enforced}
 use Rattle.plan.specs.Plans.{eventCount, ruleCount, eventAt, attributesOf, ruleAt, blankEvent, blankRule, emptyPlan}
 use Rattle.scheduler.specs.State.{firstState, emptyState}
 use Rattle.plan.specs.Rules.{badStep, badAttributes, named, enforceable, soundEvent, soundRule}
 use Rattle.plan.specs.Records.{bodyLength, recordAt, ruleOf, addEvent, addRule, table1, addEvents, declare, isRule, recordFault}
 use Rattle.plan.specs.Sheets.{PlanReading, whole, faulty, readFrom, readPlan, ending, sheetPlan}
 use Rattle.scheduler.specs.Sheet.{admitted, readSheet}
-use Rattle.plan.proofs.Tests.{and-left, and-right}
+use Rattle.plan.proofs.Tests.{and-both}
 use Rattle.plan.proofs.Arrays.{length-store, read-same, read-other, read-blank}
 use Rattle.plan.proofs.FaultlessRecords.{Faultless, faultless}
 
@@ -48,6 +48,23 @@ read-empty = record {
 abbrev isSound : Event → Bool
 isSound v = not (badStep (v .step)) && not (badAttributes (v .attributes))
 
+below-more : (x n : ℕ) → ltb x n ≡ true → ltb x (n + 1) ≡ true
+below-more x n h = let lt = ltb-true x n h in lt-ltb x (n + 1) (omega arith)
+
+-- a rule that names some of n events names some of one more
+named-more : (n : ℕ) (u : Rule) → named n u ≡ true → named (n + 1) u ≡ true
+unfolding named
+named-more n (Order x y) h =
+    let q = and-three (ltb x n) (ltb y n) (not (eqb x y)) h in
+    rw (below-more x n (q .0), below-more y n (q .1), q .2)
+named-more n (Need x y) h =
+    let q = and-three (ltb x n) (ltb y n) (not (eqb x y)) h in
+    rw (below-more x n (q .0), below-more y n (q .1), q .2)
+named-more n (Conditional x y z) h =
+    let q = and-three (ltb x n && ltb y n && ltb z n && not (eqb x y)) (not (eqb x z)) (not (eqb y z)) h in
+    let v = and-four (ltb x n) (ltb y n) (ltb z n) (not (eqb x y)) (q .0) in
+    rw (below-more x n (v .0), below-more y n (v .1), below-more z n (v .2), v .3, q .1, q .2)
+
 -- one more event
 module _ (p : Plan) (k a : ℕ) (r : Read p) (room : eventCount p < 16) where
   new-event : eventAt (addEvent p k a) (eventCount p) ≡ record { step = k; attributes = a }
@@ -60,40 +77,18 @@ module _ (p : Plan) (k a : ℕ) (r : Read p) (room : eventCount p < 16) where
   unfolding addEvent
   old-event e ne = read-other 16 (p .events) (eventCount p) (record { step = k; attributes = a }) blankEvent e ne
 
-  -- an event that was declared is declared still, with its attributes
-  still : (x : ℕ)
-      → ltb x (eventCount p) ≡ true
-      → (ltb x (eventCount p + 1) ≡ true) × (attributesOf (addEvent p k a) x ≡ attributesOf p x)
-  still x h =
-      let lt = ltb-true x (eventCount p) h in
-      (lt-ltb x (eventCount p + 1) (omega arith), ap (λ (v : Event). v .attributes) (old-event x (omega arith)))
-
-  pair-stays : (x y : ℕ)
-      → (ltb x (eventCount p) && ltb y (eventCount p) && not (eqb x y)) ≡ true
-      → ((ltb x (eventCount p + 1) && ltb y (eventCount p + 1) && not (eqb x y)) ≡ true)
-      × (attributesOf (addEvent p k a) x ≡ attributesOf p x)
-      × (attributesOf (addEvent p k a) y ≡ attributesOf p y)
-  pair-stays x y n =
-      let q = and-three (ltb x (eventCount p)) (ltb y (eventCount p)) (not (eqb x y)) n in
-      let sx = still x (q .0) in
-      let sy = still y (q .1) in
-      (rw (sx .0, sy .0, q .2), sx .1, sy .1)
+  -- an event that was declared has its attributes still
+  same-attributes : (x : ℕ) → x < eventCount p → attributesOf (addEvent p k a) x ≡ attributesOf p x
+  same-attributes x lt = ap (λ (v : Event). v .attributes) (old-event x (omega arith))
 
   rule-stays : (u : Rule)
       → named (eventCount p) u ≡ true
       → enforceable p u ≡ true
       → (named (eventCount (addEvent p k a)) u && enforceable (addEvent p k a) u) ≡ true
-  unfolding named enforceable addEvent
-  rule-stays (Order x y) n e = let q = pair-stays x y n in rw (q .0, q .1, q .2) e
-  rule-stays (Need x y) n e = let q = pair-stays x y n in rw (q .0, q .1, q .2) e
-  rule-stays (Conditional x y z) n e =
-      let m = eventCount p in
-      let q = and-three (ltb x m && ltb y m && ltb z m && not (eqb x y)) (not (eqb x z)) (not (eqb y z)) n in
-      let v = and-three (ltb x m && ltb y m) (ltb z m) (not (eqb x y)) (q .0) in
-      let sx = still x (and-left (ltb x m) (ltb y m) (v .0)) in
-      let sy = still y (and-right (ltb x m) (ltb y m) (v .0)) in
-      let sz = still z (v .1) in
-      rw (sx .0, sy .0, sz .0, v .2, q .1, q .2, sx .1, sy .1, sz .1) e
+  unfolding addEvent
+  rule-stays u n e =
+      and-both (named (eventCount p + 1) u) (enforceable (addEvent p k a) u) (named-more (eventCount p) u n)
+      (same-enforced p (addEvent p k a) (eventCount p) same-attributes u n ∙ e)
 
   event-sound : badStep k ≡ false
       → badAttributes a ≡ false

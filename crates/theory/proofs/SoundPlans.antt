@@ -4,10 +4,11 @@ use native.Mathlib.Omega.{arith}
 use borrow.Author.Tests.{ltb-false, not-true}
 use mathlib.Core.Bool.{true, not}
 use mathlib.Core.Path.{_≡_}
-use Rattle.theory.proofs.Types.{Plan}
+use Rattle.theory.proofs.Types.{Rule, Order, Need, Conditional, Plan}
 use Rattle.plan.specs.Plans.{eventCount, ruleCount, stepOf, attributesOf, ruleAt}
 use Rattle.plan.specs.Rules.{badStep, badAttributes, named, enforceable, soundEvent, soundRule}
 use Rattle.plan.proofs.Tests.{and-left, and-right}
+use Rattle.plan.proofs.RuleReads.{two-named, triple-named}
 
 pub record Sound (p : Plan) : Type 0 where
   pub few-events : eventCount p ≤ 16
@@ -31,3 +32,16 @@ module _ {p : Plan} (sd : Sound p) (i : ℕ) (l : i < ruleCount p) where
   pub rule-enforced : enforceable p (ruleAt p i) ≡ true
   unfolding soundRule
   rule-enforced = and-right (named (eventCount p) (ruleAt p i)) (enforceable p (ruleAt p i)) (sd .rule i l)
+
+-- a rule can be enforced where the events that it names have the same attributes
+pub same-enforced : (p q : Plan) (n : ℕ)
+    → ((e : ℕ) → e < n → attributesOf q e ≡ attributesOf p e)
+    → (r : Rule)
+    → named n r ≡ true
+    → enforceable q r ≡ enforceable p r
+unfolding enforceable named
+same-enforced p q n same (Order a b) h = let t = two-named n a b _ h in rw (same a (t .0), same b (t .1))
+same-enforced p q n same (Need a b) h = let t = two-named n a b _ h in rw (same a (t .0), same b (t .1))
+same-enforced p q n same (Conditional a b c) h =
+    let t = triple-named n a b c h in
+    rw (same a (t .first), same b (t .second), same c (t .third))

@@ -4,20 +4,17 @@ use Prim.Native.Nat.{ℕ, zero, suc, _+_, _-_, _≤_, _<_}
 use native.Mathlib.Nat.{zero-add}
 use native.Mathlib.Omega.{arith}
 use borrow.Author.Tests.{lt-ltb}
-use mathlib.Core.Bool.{true}
 use mathlib.Core.List.{List, [], _∷_, _++_, map}
 use mathlib.Core.Path.{_≡_, refl, sym, _∙_, ap}
 use lib.ListN.{length, getD, take, drop, set, replicate, length-append, length-map, length-drop, length-replicate, take-append-drop, List·getD-append, List·getD-map}
 use lib.Seq.{set-at, append-snoc, length-take-le, getD-take, getD-drop, ext-getD}
 use Rattle.plan.specs.Base.{tabulate, readAt, storeAt}
 use Rattle.plan.specs.Plans.{blankEvent, blankRule, eventCount, ruleCount, eventAt, attributesOf, ruleAt}
-use Rattle.plan.specs.Rules.{named, enforceable}
 use Rattle.plan.specs.Records.{addEvent, addRule}
 use Rattle.plan.proofs.Arrays.{read-in, get-blank}
-use Rattle.plan.proofs.RuleReads.{two-named, triple-named}
 use Rattle.theory.proofs.SheetPlans.{Read}
 use Rattle.theory.proofs.Observation.{length-tabulate, getD-tabulate, as-tabulate}
-use Rattle.writer.specs.Types.{Event, Rule, Order, Need, Conditional, RuleLine, Plan}
+use Rattle.writer.specs.Types.{Event, Rule, RuleLine, Plan}
 use Rattle.writer.specs.Writing.{eventsOf, rulesOf, SameDeclared, plain}
 
 -- a list, and blanks up to 16 places
@@ -153,19 +150,6 @@ module _ (p : Plan) where
     plain-attributes ls e lt =
         ap (λ (v : Event). v .attributes)
         (made-event (eventsOf p) ls e (omega (arith, count)) (omega (arith, count)) ∙ getD-tabulate (eventCount p) 0 (λ e. eventAt p e) e blankEvent lt ∙ ap (λ (k : ℕ). eventAt p k) (zero-add e))
-
--- a rule can be enforced where the events that it names have the same attributes
-pub same-enforced : (p q : Plan) (n : ℕ)
-    → ((e : ℕ) → e < n → attributesOf q e ≡ attributesOf p e)
-    → (r : Rule)
-    → named n r ≡ true
-    → enforceable q r ≡ enforceable p r
-unfolding enforceable named
-same-enforced p q n same (Order a b) h = let t = two-named n a b _ h in rw (same a (t .0), same b (t .1))
-same-enforced p q n same (Need a b) h = let t = two-named n a b _ h in rw (same a (t .0), same b (t .1))
-same-enforced p q n same (Conditional a b c) h =
-    let t = triple-named n a b c h in
-    rw (same a (t .first), same b (t .second), same c (t .third))
 
 -- lines of rules made from a function
 lines-made : (n i : ℕ) (g : ℕ → Rule) → map lineOf (tabulate n i g) ≡ tabulate n i (λ k. lineOf (g k))

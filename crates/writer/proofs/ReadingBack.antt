@@ -4,7 +4,6 @@ use native.Mathlib.Nat.{suc-add, zero-add, add-zero}
 use native.Mathlib.Omega.{arith}
 use mathlib.Core.Bool.{true, false, not}
 use mathlib.Core.List.{List, [], _∷_, _++_, map, append-assoc, append-nil}
-use mathlib.Core.Option.{none}
 use mathlib.Core.Path.{_≡_, refl, sym, _∙_, ap}
 use lib.Dec.{eqb}
 use lib.ListN.{length, getD, drop, length-append, length-drop}
@@ -14,6 +13,7 @@ use Rattle.plan.specs.Rules.{badStep, badAttributes, named, enforceable}
 use Rattle.plan.specs.Records.{bodyLength, recordAt, ruleOf, addEvent, addRule, declare, recordFault}
 use Rattle.plan.specs.Sheets.{whole, readFrom}
 use Rattle.plan.proofs.FaultlessRecords.{Faultless, no-fault}
+use Rattle.plan.proofs.SheetReading.{read-end, read-next}
 use Rattle.writer.specs.Types.{Event, Rule, Order, Need, Conditional, RuleLine, Plan, Record}
 use Rattle.writer.specs.Writing.{eventRecord, ruleRecord, joined}
 use Rattle.writer.proofs.Padded.{lineOf, made, add-event, add-rule}
@@ -163,29 +163,25 @@ module _ (b : List ℕ) where
       → Faultless p (length b) at v
       → eqb (v .kind) 5 ≡ false
       → readFrom (suc n) b at p ≡ readFrom n b (at + 1 + bodyLength (v .kind)) (declare p v)
-  unfolding readFrom
   read-on n at p v h c k =
-      let none-here : recordFault p (length b) at (recordAt b at) ≡ none =
-      ap (recordFault p (length b) at) h ∙ no-fault p (length b) at v c in
-      let going : eqb (getD b at 0) 5 ≡ false = ap (λ (w : Record). eqb (w .kind) 5) h ∙ k in
-      rw (none-here, going, readFrom)
-      (ap (λ (w : Record). readFrom n b (at + 1 + bodyLength (w .kind)) (declare p w)) h)
+      let none-here = ap (recordFault p (length b) at) h ∙ no-fault p (length b) at v c in
+      let going = ap (λ (w : Record). eqb (w .kind) 5) h ∙ k in
+      read-next n b at p none-here going
+      ∙ ap (λ (w : Record). readFrom n b (at + 1 + bodyLength (w .kind)) (declare p w)) h
 
   -- the end record
-  pub read-end : (n at : ℕ) (p : Plan)
+  pub read-last : (n at : ℕ) (p : Plan)
       → eventCount p ≤ 16
       → ruleCount p ≤ 16
       → drop at b ≡ 5 ∷ []
       → readFrom (suc n) b at p ≡ whole p (at + 1)
-  unfolding readFrom
-  read-end n at p few-events few-rules h =
+  read-last n at p few-events few-rules h =
       let here = front-at at (5 ∷ []) h in
       let inside = inside-at at (5 ∷ []) [] h (omega arith) in
-      let none-here : recordFault p (length b) at (recordAt b at) ≡ none =
-      ap (recordFault p (length b) at) here
-      ∙ no-fault p (length b) at (front (5 ∷ [])) (end-faultless p (length b) at few-events few-rules (omega arith)) in
-      let ends : eqb (getD b at 0) 5 ≡ true = ap (λ (w : Record). eqb (w .kind) 5) here in
-      rw (none-here, ends, readFrom)
+      let faultless = end-faultless p (length b) at few-events few-rules (omega arith) in
+      let none-here =
+      ap (recordFault p (length b) at) here ∙ no-fault p (length b) at (front (5 ∷ [])) faultless in
+      read-end n b at p none-here (ap (λ (w : Record). eqb (w .kind) 5) here)
 
   -- the events' records
   pub read-events : (vs es : List Event) (n at : ℕ) (more : List ℕ)

@@ -21,14 +21,14 @@ use Rattle.scheduler.specs.Coherent.{coherent}
 use Rattle.scheduler.specs.Sheet.{admitted, readSheet}
 use Rattle.theory.proofs.Demands.{admitted-coherent}
 use Rattle.theory.proofs.SheetPlans.{sheet-first, sheet-read}
-use Rattle.theory.proofs.SoundPlans.{Sound, rule-named, rule-enforced}
+use Rattle.theory.proofs.SoundPlans.{Sound, rule-named, rule-enforced, same-enforced}
 use Rattle.theory.proofs.Coherence.{coherent-sound}
 use Rattle.theory.proofs.Observation.{length-tabulate, getD-tabulate}
 use Rattle.writer.specs.Types.{Standing, Event, Rule, RuleLine, Plan, Record, State, Reading}
 use Rattle.writer.specs.Writing.{eventsOf, rulesOf, eventRecord, ruleRecord, joined, sheetBytes, sheetLength, plain, SameDeclared, ReadBack}
 use Rattle.writer.proofs.Joining.{sheet-parts, sheet-short}
-use Rattle.writer.proofs.Padded.{lineOf, made, plain-made, plain-same, plain-attributes, same-enforced, plain-is}
-use Rattle.writer.proofs.ReadingBack.{Fine, drop-next, read-events, read-rules, read-end}
+use Rattle.writer.proofs.Padded.{lineOf, made, plain-made, plain-same, plain-attributes, plain-is}
+use Rattle.writer.proofs.ReadingBack.{Fine, drop-next, read-events, read-rules, read-last}
 
 -- what declares the same is written alike
 pub written-alike : (p q : Plan) → SameDeclared p q → sheetBytes p ≡ sheetBytes q
@@ -102,7 +102,7 @@ module _ (p : Plan) (sd : Sound p) where
       sym (read-enough enough bytes (omega arith))
       ∙ read-events bytes es [] (length rs + suc (length bytes)) 0 (rls ++ (5 ∷ [])) (sheet-parts p) (omega (arith, event-count, sd .few-events)) event-fine
       ∙ read-rules bytes rs es [] (suc (length bytes)) (0 + length evs) (5 ∷ []) middle (omega (arith, event-count, sd .few-events)) (omega (arith, rule-count, sd .few-rules)) rule-names rule-holds
-      ∙ read-end bytes (length bytes) (0 + length evs + length rls) (made es ls) (omega (arith, event-count, sd .few-events)) (omega (arith, length-map rs lineOf, rule-count, sd .few-rules)) last
+      ∙ read-last bytes (length bytes) (0 + length evs + length rls) (made es ls) (omega (arith, event-count, sd .few-events)) (omega (arith, length-map rs lineOf, rule-count, sd .few-rules)) last
       ∙ (λ i. whole (plain-made p i) (size i))
 
   sheet-reads : readSheet bytes ≡ admitted (firstState (plain p))
