@@ -131,17 +131,21 @@ hosts-sheet sheet s cs h =
           ∙ ap (λ (p : Plan). filled (sheetBytes p) out) same;
     }
 
--- two admitted sheets that declare the same, numbered alike, are written as the same bytes
+-- two admitted sheets that declare the same, numbered alike, are written alike, whatever lists follow: number, length, bytes
 pub sheets-alike : (a b : List ℕ) (s t : State) (cs ds : List Call) (out : List ℕ)
     → readSheet a ≡ admitted s
     → readSheet b ≡ admitted t
     → SameDeclared (s .plan) (t .plan)
-    → (bufferOn (imagesAfter (imageOf s) cs) out ≡ bufferOn (imagesAfter (imageOf t) ds) out)
+    → (writeNumberOn (imagesAfter (imageOf s) cs) (length out) ≡ writeNumberOn (imagesAfter (imageOf t) ds) (length out))
     × (needOn (imagesAfter (imageOf s) cs) ≡ needOn (imagesAfter (imageOf t) ds))
+    × (bufferOn (imagesAfter (imageOf s) cs) out ≡ bufferOn (imagesAfter (imageOf t) ds) out)
 sheets-alike a b s t cs ds out h k same =
     let one = hosts-sheet a s cs h in
     let other = hosts-sheet b t ds k in
     let bytes = written-alike (s .plan) (t .plan) same in (
-      one .bytes out ∙ ap (λ (l : List ℕ). filled l out) bytes ∙ sym (other .bytes out),
+      one .number (length out)
+          ∙ ap (λ (l : List ℕ). cond (ltb (length out) (length l)) 14 0) bytes
+          ∙ sym (other .number (length out)),
       one .need ∙ ap length bytes ∙ sym (other .need),
+      one .bytes out ∙ ap (λ (l : List ℕ). filled l out) bytes ∙ sym (other .bytes out),
     )

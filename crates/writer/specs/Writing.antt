@@ -33,6 +33,7 @@ ruleRecord r = elim r [
   | Conditional a b c ↦ 4 ∷ a ∷ b ∷ c ∷ []
 ]
 
+-- the records of a list, one after another
 unfoldable pub joined : {A : Type 0} → (A → List ℕ) → List A → List ℕ
 joined f [] = []
 joined f (x ∷ xs) = f x ++ joined f xs
