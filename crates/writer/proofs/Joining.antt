@@ -13,13 +13,9 @@ use Rattle.writer.specs.Types.{Event, Rule, Order, Need, Conditional, Pl
 use Rattle.writer.specs.Writing.{eventsOf, rulesOf, eventRecord, ruleRecord, joined, sheetBytes, sheetLength}
 
 module _ {A : Type 0} (f : A → List ℕ) where
-  pub joined-none : joined f [] ≡ []
+  joined-none : joined f [] ≡ []
   unfolding joined
   joined-none = refl
-
-  pub joined-more : (x : A) (xs : List A) → joined f (x ∷ xs) ≡ f x ++ joined f xs
-  unfolding joined
-  joined-more x xs = refl
 
   joined-append : (xs ys : List A) → joined f (xs ++ ys) ≡ joined f xs ++ joined f ys
   unfolding joined

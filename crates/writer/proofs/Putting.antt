@@ -42,7 +42,7 @@ module _ (events : List Event) where
 -- a rule, of the form that a test told
 pub rule-put : (page : List ℕ) (at : ℕ) (after : List ℕ) (end : ℕ) {r q : Rule}
     → r ≡ q
-    → at ≤ 300
+    → at + 4 ≤ 320
     → After page at (ruleRecord q) after end
     → Put page at (ruleRecord r) after end
 rule-put page at after end {r} {q} e room h =

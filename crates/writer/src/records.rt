@@ -40,7 +40,7 @@ fn put_events(page: &mut [u8; MOST], events: [Event; 16], count: u8) -> usize
     next
 }
 
-// A record of kind 2, 3 or 4 for each rule.
+// A record of kind 2, 3 or 4 for each rule, after at most sixteen records of three bytes.
 fn put_rules(page: &mut [u8; MOST], at: usize, rules: [RuleLine; 16], count: u8) -> usize
     requires few { ⌜ count ≤ 16 ⌝ }
     requires room { ⌜ at ≤ 48 ⌝ }
@@ -59,7 +59,7 @@ fn put_rules(page: &mut [u8; MOST], at: usize, rules: [RuleLine; 16], count: u8)
 
 // A rule's record.
 fn put_rule(page: &mut [u8; MOST], at: usize, rule: Rule) -> usize
-    requires { ⌜ at ≤ 300 ⌝ }
+    requires { ⌜ at + 4 ≤ 320 ⌝ }
     ensures { λ r. ⌜ Put (now (page .entry)) at (ruleRecord rule) (now (page .exit)) r ⌝ }
 {
     match rule {
