@@ -95,11 +95,12 @@ module _ (page : List ℕ) (at : ℕ) (text : List ℕ) where
   abbrev pub After : List ℕ → ℕ → Type 0
   After after end = (end ≡ endAfter at text) × (after ≡ pageAfter page at text)
 
-  -- none
+  -- there is none: nothing is put
   pub put-no-room : 320 < at + length text → After page at
   unfolding endAfter pageAfter
   put-no-room h = (rw (lt-leb (at + length text) 320 h), rw (lt-leb (at + length text) 320 h))
 
+  -- there is: the text is put
   module _ (room : at + length text ≤ 320) (after : List ℕ) (end : ℕ) where
     pub after-put : Put page at text after end → After after end
     unfolding endAfter pageAfter

@@ -149,7 +149,14 @@ tail-few held broken refused h k r =
 
 fault-line-few : (f : SheetFault) (at : ℕ) → at < 18446744073709551616 → length (faultLine f at) ≤ 36
 fault-line-few f at h =
-    omega (arith, ap length (fault-is f at (sheetFaultNumber f) refl) ∙ length-append (refusedLead ++ decimal (sheetFaultNumber f)) (line (atLead ++ decimal at)), line-length atLead at, three (sheetFaultNumber f) (fault-few f), twenty at h)
+    let number = sheetFaultNumber f in
+    omega (
+      arith,
+      ap length (fault-is f at number refl) ∙ length-append (refusedLead ++ decimal number) (line (atLead ++ decimal at)),
+      line-length atLead at,
+      three number (fault-few f),
+      twenty at h,
+    )
 
 module _ (o : Outcome) (fits : Small o) where
   -- 16 lines of 12 bytes

@@ -122,8 +122,11 @@ module _ (h : List Entry) (len : ℕ) (whole : length h ≡ 16) where
   -- the lines before k take no more than those before n
   upto : (k n : ℕ) → k ≤ n → length (historyLines (take k h)) ≤ length (historyLines (take n h))
   upto k n le =
-      let parts : historyLines (take n h) ≡ historyLines (take k h) ++ historyLines (drop k (take n h)) = ap historyLines (sym (take-append-drop k (take n h)) ∙ ap (λ (l : List Entry). l ++ drop k (take n h)) (take-take k n h le)) ∙ lines-append (take k h) (drop k (take n h)) in
-      omega (arith, ap length parts ∙ length-append (historyLines (take k h)) (historyLines (drop k (take n h))))
+      let rest = drop k (take n h) in
+      let split = sym (take-append-drop k (take n h)) ∙ ap (λ (l : List Entry). l ++ rest) (take-take k n h le) in
+      let parts : historyLines (take n h) ≡ historyLines (take k h) ++ historyLines rest =
+      ap historyLines split ∙ lines-append (take k h) rest in
+      omega (arith, ap length parts ∙ length-append (historyLines (take k h)) (historyLines rest))
 
   -- there is room for one line more
   pub lines-room : (at next i : ℕ)
@@ -187,7 +190,10 @@ pub report-admitted : (o : Outcome) → o .verdict ≡ Admitted → report o ≡
 unfolding report stateText head tail
 report-admitted o e =
     let s = o .state in
-    rw (e, report) (regroup (head (eventCount (s .plan)) (ruleCount (s .plan))) (historyLines (lines s)) (line (heldLead ++ decimal (heldCount s))) (line (brokenLead ++ decimal (brokenCount s))) (line (callsLead ++ decimal (o .refused))))
+    let top = head (eventCount (s .plan)) (ruleCount (s .plan)) in
+    let held = line (heldLead ++ decimal (heldCount s)) in
+    let broken = line (brokenLead ++ decimal (brokenCount s)) in
+    rw (e, report) (regroup top (historyLines (lines s)) held broken (line (callsLead ++ decimal (o .refused))))
 
 pub report-faulty : (o : Outcome) (f : SheetFault) (at : ℕ) → o .verdict ≡ Faulty f at → report o ≡ faultLine f at
 unfolding report faultLine

@@ -1,3 +1,4 @@
--- Names for types; what a report is stands in `scheduler`, what a buffer holds after it in `pages`. `Internal` is for private functions.
+-- Names for types. What a report is stands in `scheduler`, what a buffer holds after it in `pages`; `Internal` is for
+-- private functions.
 pub mod Types
 pub mod Internal

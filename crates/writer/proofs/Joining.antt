@@ -7,10 +7,10 @@ use mathlib.Core.List.{List, [], _∷_, _++_, append-assoc, append-nil}
 use mathlib.Core.Path.{_≡_, refl, sym, _∙_, ap}
 use lib.ListN.{length, length-append}
 use Rattle.plan.specs.Base.{tabulate}
-use Rattle.plan.specs.Plans.{eventCount, ruleCount, eventAt, ruleAt}
-use Rattle.theory.proofs.Observation.{length-tabulate}
+use Rattle.plan.specs.Plans.{eventCount, ruleCount}
 use Rattle.writer.specs.Types.{Event, Rule, Order, Need, Conditional, Plan}
 use Rattle.writer.specs.Writing.{eventsOf, rulesOf, eventRecord, ruleRecord, joined, sheetBytes, sheetLength}
+use Rattle.writer.proofs.Declared.{events-count, rules-count}
 
 module _ {A : Type 0} (f : A → List ℕ) where
   joined-none : joined f [] ≡ []
@@ -84,6 +84,6 @@ module _ (p : Plan) where
         length-append ruleBytes (5 ∷ []),
         events-length (eventsOf p),
         rules-few (rulesOf p),
-        length-tabulate (eventCount p) 0 (λ e. eventAt p e),
-        length-tabulate (ruleCount p) 0 (λ i. ruleAt p i),
+        events-count p,
+        rules-count p,
       )

@@ -1,4 +1,5 @@
 -- Lemmas on sheets written out, the theorems on them, and cases.
+pub mod Declared
 pub mod Joining
 pub mod Putting
 pub mod Padded

@@ -1,7 +1,6 @@
 -- Plans with blanks past what they declare: how they are made, event after event and rule after rule, and what is read of
 -- them.
 use Prim.Native.Nat.{ℕ, zero, suc, _+_, _-_, _≤_, _<_}
-use native.Mathlib.Nat.{zero-add}
 use native.Mathlib.Omega.{arith}
 use borrow.Author.Tests.{lt-ltb}
 use mathlib.Core.List.{List, [], _∷_, _++_, map}
@@ -13,9 +12,10 @@ use Rattle.plan.specs.Plans.{blankEvent, blankRule, eventCount, ruleCount, even
 use Rattle.plan.specs.Records.{addEvent, addRule}
 use Rattle.plan.proofs.Arrays.{read-in, get-blank}
 use Rattle.theory.proofs.SheetPlans.{Read}
-use Rattle.theory.proofs.Observation.{length-tabulate, getD-tabulate, as-tabulate}
+use Rattle.theory.proofs.Observation.{as-tabulate}
 use Rattle.writer.specs.Types.{Event, Rule, RuleLine, Plan}
 use Rattle.writer.specs.Writing.{eventsOf, rulesOf, SameDeclared, plain}
+use Rattle.writer.proofs.Declared.{events-count, rules-count, event-said}
 
 -- a list, and blanks up to 16 places
 module _ {A : Type 0} (blank : A) where
@@ -118,38 +118,33 @@ made-rules es rs few =
 module _ (p : Plan) where
   pub plain-made : made (eventsOf p) (map lineOf (rulesOf p)) ≡ plain p
   plain-made =
-      let m : length (eventsOf p) ≡ eventCount p = length-tabulate (eventCount p) 0 (λ e. eventAt p e) in
-      let n : length (map lineOf (rulesOf p)) ≡ ruleCount p =
-      length-map (rulesOf p) lineOf ∙ length-tabulate (ruleCount p) 0 (λ i. ruleAt p i) in
+      let lines = length-map (rulesOf p) lineOf ∙ rules-count p in
       λ i. record {
-        events = eventsOf p ++ replicate (16 - m i) blankEvent;
-        «event_count» = m i;
-        rules = map lineOf (rulesOf p) ++ replicate (16 - n i) blankRule;
-        «rule_count» = n i;
+        events = eventsOf p ++ replicate (16 - events-count p i) blankEvent;
+        «event_count» = events-count p i;
+        rules = map lineOf (rulesOf p) ++ replicate (16 - lines i) blankRule;
+        «rule_count» = lines i;
       }
 
-  module _ (few-events : eventCount p ≤ 16) (few-rules : ruleCount p ≤ 16) where
-    count : length (eventsOf p) ≡ eventCount p
-    count = length-tabulate (eventCount p) 0 (λ e. eventAt p e)
+  -- it declares the same
+  pub plain-same : eventCount p ≤ 16 → ruleCount p ≤ 16 → SameDeclared (plain p) p
+  plain-same few-events few-rules = record {
+    events =
+        ap eventsOf (sym plain-made)
+        ∙ made-events (eventsOf p) (map lineOf (rulesOf p)) (omega (arith, events-count p));
+    rules =
+        ap rulesOf (sym plain-made)
+        ∙ made-rules (eventsOf p) (rulesOf p) (omega (arith, rules-count p));
+  }
 
-    -- it declares the same
-    pub plain-same : SameDeclared (plain p) p
-    plain-same = record {
-      events =
-          ap eventsOf (sym plain-made)
-          ∙ made-events (eventsOf p) (map lineOf (rulesOf p)) (omega (arith, count));
-      rules =
-          ap rulesOf (sym plain-made)
-          ∙ made-rules (eventsOf p) (rulesOf p) (omega (arith, length-tabulate (ruleCount p) 0 (λ i. ruleAt p i)));
-    }
-
-    -- an event of it has its attributes
-    pub plain-attributes : (ls : List RuleLine) (e : ℕ)
-        → e < eventCount p
-        → attributesOf (made (eventsOf p) ls) e ≡ attributesOf p e
-    plain-attributes ls e lt =
-        ap (λ (v : Event). v .attributes)
-        (made-event (eventsOf p) ls e (omega (arith, count)) (omega (arith, count)) ∙ getD-tabulate (eventCount p) 0 (λ e. eventAt p e) e blankEvent lt ∙ ap (λ (k : ℕ). eventAt p k) (zero-add e))
+  -- an event of it has its attributes, also before all rules are there
+  pub made-attributes : eventCount p ≤ 16
+      → (ls : List RuleLine) (e : ℕ)
+      → e < eventCount p
+      → attributesOf (made (eventsOf p) ls) e ≡ attributesOf p e
+  made-attributes few ls e lt =
+      ap (λ (v : Event). v .attributes)
+      (made-event (eventsOf p) ls e (omega (arith, events-count p)) (omega (arith, events-count p)) ∙ event-said p e lt)
 
 -- lines of rules made from a function
 lines-made : (n i : ℕ) (g : ℕ → Rule) → map lineOf (tabulate n i g) ≡ tabulate n i (λ k. lineOf (g k))

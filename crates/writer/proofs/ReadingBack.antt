@@ -2,7 +2,7 @@
 use Prim.Native.Nat.{ℕ, suc, _+_, _≤_, _<_}
 use native.Mathlib.Nat.{suc-add, zero-add, add-zero}
 use native.Mathlib.Omega.{arith}
-use mathlib.Core.Bool.{true, false, not}
+use mathlib.Core.Bool.{true, false, not, _&&_, _||_}
 use mathlib.Core.List.{List, [], _∷_, _++_, map, append-assoc, append-nil}
 use mathlib.Core.Path.{_≡_, refl, sym, _∙_, ap}
 use lib.Dec.{eqb}
@@ -10,7 +10,7 @@ use lib.ListN.{length, getD, drop, length-append, length-drop}
 use lib.Seq.{getD-drop, drop-drop, append-snoc, drop-append-seam}
 use Rattle.plan.specs.Plans.{blankEvent, blankRule, eventCount, ruleCount}
 use Rattle.plan.specs.Rules.{badStep, badAttributes, named, enforceable}
-use Rattle.plan.specs.Records.{bodyLength, recordAt, ruleOf, addEvent, addRule, declare, recordFault}
+use Rattle.plan.specs.Records.{bodyLength, newEvents, newRules, isRule, recordAt, ruleOf, addEvent, addRule, declare, recordFault}
 use Rattle.plan.specs.Sheets.{whole, readFrom}
 use Rattle.plan.proofs.FaultlessRecords.{Faultless, no-fault}
 use Rattle.plan.proofs.SheetReading.{read-end, read-next}
@@ -29,37 +29,41 @@ pub record Fine (v : Event) : Type 0 where
 
 -- the rows for a record of kind 1, of kind 2, 3 or 4, and of kind 5
 module _ (p : Plan) (len at : ℕ) (events : eventCount p ≤ 16) (rules : ruleCount p ≤ 16) where
+  rows : (v : Record)
+      → 0 < v .kind
+      → v .kind ≤ 6
+      → at + 1 + bodyLength (v .kind) ≤ len
+      → eventCount p + newEvents (v .kind) ≤ 16
+      → ruleCount p + newRules (v .kind) ≤ 16
+      → ((eqb (v .kind) 1 || eqb (v .kind) 6) && badStep (v .x)) ≡ false
+      → (eqb (v .kind) 1 && badAttributes (v .y)) ≡ false
+      → (isRule (v .kind) && not (named (eventCount p) (ruleOf v))) ≡ false
+      → (isRule (v .kind) && not (enforceable p (ruleOf v))) ≡ false
+      → Faultless p len at v
+  rows v low high size few-events few-rules step attributes names enforced = record {
+    inside = omega arith;
+    low = λ e. omega (arith, e);
+    high = high;
+    whole = size;
+    events = few-events;
+    rules = few-rules;
+    step = step;
+    attributes = attributes;
+    names = names;
+    enforced = enforced;
+  }
+
   event-faultless : (v : Event) (more : List ℕ)
       → at + 3 ≤ len
       → eventCount p < 16
       → Fine v
       → Faultless p len at (front (eventRecord v ++ more))
-  event-faultless v more inside room fine = record {
-    inside = omega arith;
-    low = λ e. omega (arith, e);
-    high = omega arith;
-    whole = omega arith;
-    events = omega arith;
-    rules = omega arith;
-    step = fine .step;
-    attributes = fine .attributes;
-    names = refl;
-    enforced = refl;
-  }
+  event-faultless v more inside room fine =
+      rows (front (eventRecord v ++ more)) (omega arith) (omega arith) (omega arith) (omega arith) (omega arith) (fine .step) (fine .attributes) refl refl
 
   end-faultless : at + 1 ≤ len → Faultless p len at (front (5 ∷ []))
-  end-faultless inside = record {
-    inside = omega arith;
-    low = λ e. omega (arith, e);
-    high = omega arith;
-    whole = omega arith;
-    events = omega arith;
-    rules = omega arith;
-    step = refl;
-    attributes = refl;
-    names = refl;
-    enforced = refl;
-  }
+  end-faultless inside =
+      rows (front (5 ∷ [])) (omega arith) (omega arith) (omega arith) (omega arith) (omega arith) refl refl refl refl
 
   rule-faultless : (r : Rule) (more : List ℕ)
       → at + length (ruleRecord r) ≤ len
@@ -68,42 +72,12 @@ module _ (p : Plan) (len at : ℕ) (events : eventCount p ≤ 16) (rules : ruleC
       → enforceable p r ≡ true
       → Faultless p len at (front (ruleRecord r ++ more))
   unfolding ruleOf
-  rule-faultless (Order a b) more inside room n e = record {
-    inside = omega arith;
-    low = λ z. omega (arith, z);
-    high = omega arith;
-    whole = omega arith;
-    events = omega arith;
-    rules = omega arith;
-    step = refl;
-    attributes = refl;
-    names = ap not n;
-    enforced = ap not e;
-  }
-  rule-faultless (Need a b) more inside room n e = record {
-    inside = omega arith;
-    low = λ z. omega (arith, z);
-    high = omega arith;
-    whole = omega arith;
-    events = omega arith;
-    rules = omega arith;
-    step = refl;
-    attributes = refl;
-    names = ap not n;
-    enforced = ap not e;
-  }
-  rule-faultless (Conditional a b c) more inside room n e = record {
-    inside = omega arith;
-    low = λ z. omega (arith, z);
-    high = omega arith;
-    whole = omega arith;
-    events = omega arith;
-    rules = omega arith;
-    step = refl;
-    attributes = refl;
-    names = ap not n;
-    enforced = ap not e;
-  }
+  rule-faultless (Order a b) more inside room n e =
+      rows (front (2 ∷ a ∷ b ∷ more)) (omega arith) (omega arith) (omega arith) (omega arith) (omega arith) refl refl (ap not n) (ap not e)
+  rule-faultless (Need a b) more inside room n e =
+      rows (front (3 ∷ a ∷ b ∷ more)) (omega arith) (omega arith) (omega arith) (omega arith) (omega arith) refl refl (ap not n) (ap not e)
+  rule-faultless (Conditional a b c) more inside room n e =
+      rows (front (4 ∷ a ∷ b ∷ c ∷ more)) (omega arith) (omega arith) (omega arith) (omega arith) (omega arith) refl refl (ap not n) (ap not e)
 
 -- what a rule's record says: the rule, which is declared, and where the next record begins
 rule-declared : (p : Plan) (r : Rule) (more : List ℕ) → declare p (front (ruleRecord r ++ more)) ≡ addRule p r

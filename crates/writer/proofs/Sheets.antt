@@ -1,14 +1,13 @@
 -- The theorems on written sheets: what is written is admitted with the same events and rules and written again as the same
 -- bytes; what declares the same is written alike, and only that; a record of kind 6 declares what four of kind 1 do.
-use Prim.Native.Nat.{ℕ, suc, _+_, _<_}
-use native.Mathlib.Nat.{zero-add}
+use Prim.Native.Nat.{ℕ, suc, _+_, _≤_, _<_}
 use native.Mathlib.Omega.{arith}
 use borrow.Author.Tests.{not-true, le-ltb}
 use mathlib.Core.Bool.{true, not}
 use mathlib.Core.List.{List, [], _∷_, _++_, map}
 use mathlib.Core.Path.{_≡_, refl, sym, _∙_, ap}
 use lib.ListN.{length, getD, length-append, length-map}
-use Rattle.plan.specs.Plans.{blankEvent, blankRule, eventCount, ruleCount, eventAt, ruleAt, stepOf, attributesOf}
+use Rattle.plan.specs.Plans.{blankEvent, blankRule, eventCount, ruleCount, ruleAt, stepOf, attributesOf}
 use Rattle.plan.specs.Fates.{blankStanding}
 use Rattle.plan.specs.Rules.{badStep, badAttributes, named, enforceable, soundEvent}
 use Rattle.plan.specs.Records.{addEvents, declare}
@@ -23,11 +22,11 @@ use Rattle.theory.proofs.Demands.{admitted-coherent}
 use Rattle.theory.proofs.SheetPlans.{sheet-first, sheet-read}
 use Rattle.theory.proofs.SoundPlans.{Sound, rule-named, rule-enforced, same-enforced}
 use Rattle.theory.proofs.Coherence.{coherent-sound}
-use Rattle.theory.proofs.Observation.{length-tabulate, getD-tabulate}
 use Rattle.writer.specs.Types.{Standing, Event, Rule, RuleLine, Plan, Record, State, Reading}
 use Rattle.writer.specs.Writing.{eventsOf, rulesOf, eventRecord, ruleRecord, joined, sheetBytes, sheetLength, plain, SameDeclared, ReadBack}
+use Rattle.writer.proofs.Declared.{events-count, rules-count, event-said, rule-said}
 use Rattle.writer.proofs.Joining.{sheet-parts, sheet-short}
-use Rattle.writer.proofs.Padded.{lineOf, made, plain-made, plain-same, plain-attributes, plain-is}
+use Rattle.writer.proofs.Padded.{lineOf, made, plain-made, plain-same, made-attributes, plain-is}
 use Rattle.writer.proofs.ReadingBack.{Fine, drop-next, read-events, read-rules, read-last}
 
 -- what declares the same is written alike
@@ -43,46 +42,32 @@ module _ (p : Plan) (sd : Sound p) where
   abbrev rs : List Rule
   rs = rulesOf p
 
-  event-count : length es ≡ eventCount p
-  event-count = length-tabulate (eventCount p) 0 (λ e. eventAt p e)
-
-  rule-count : length rs ≡ ruleCount p
-  rule-count = length-tabulate (ruleCount p) 0 (λ i. ruleAt p i)
-
-  -- each of its events and rules
-  event-said : (k : ℕ) → k < length es → getD es k blankEvent ≡ eventAt p k
-  event-said k lt =
-      getD-tabulate (eventCount p) 0 (λ e. eventAt p e) k blankEvent (omega (arith, event-count))
-      ∙ ap (λ (e : ℕ). eventAt p e) (zero-add k)
-
-  rule-said : (k : ℕ) → k < length rs → getD rs k (blankRule .rule) ≡ ruleAt p k
-  rule-said k lt =
-      getD-tabulate (ruleCount p) 0 (λ i. ruleAt p i) k (blankRule .rule) (omega (arith, rule-count))
-      ∙ ap (λ (i : ℕ). ruleAt p i) (zero-add k)
-
   event-fine : (k : ℕ) → k < length es → Fine (getD es k blankEvent)
   unfolding soundEvent
   event-fine k lt =
-      let said = event-said k lt in
-      let sound = sd .event k (omega (arith, event-count)) in
+      let below : k < eventCount p = omega (arith, events-count p) in
+      let said = event-said p k below in
+      let step = badStep (stepOf p k) in
+      let attributes = badAttributes (attributesOf p k) in
+      let sound = sd .event k below in
       record {
-        step =
-            ap (λ (v : Event). badStep (v .step)) said
-            ∙ not-true (badStep (stepOf p k)) (and-left (not (badStep (stepOf p k))) (not (badAttributes (attributesOf p k))) sound);
+        step = ap (λ (v : Event). badStep (v .step)) said ∙ not-true step (and-left (not step) (not attributes) sound);
         attributes =
             ap (λ (v : Event). badAttributes (v .attributes)) said
-            ∙ not-true (badAttributes (attributesOf p k)) (and-right (not (badStep (stepOf p k))) (not (badAttributes (attributesOf p k))) sound);
+            ∙ not-true attributes (and-right (not step) (not attributes) sound);
       }
 
   rule-names : (k : ℕ) → k < length rs → named (length es) (getD rs k (blankRule .rule)) ≡ true
   rule-names k lt =
-      (λ i. named (event-count i) (rule-said k lt i)) ∙ rule-named sd k (omega (arith, rule-count))
+      let below : k < ruleCount p = omega (arith, rules-count p) in
+      (λ i. named (events-count p i) (rule-said p k below i)) ∙ rule-named sd k below
 
   rule-holds : (k : ℕ) (ls : List RuleLine) → k < length rs → enforceable (made es ls) (getD rs k (blankRule .rule)) ≡ true
   rule-holds k ls lt =
-      let below : k < ruleCount p = omega (arith, rule-count) in
-      ap (enforceable (made es ls)) (rule-said k lt)
-      ∙ same-enforced p (made es ls) (eventCount p) (plain-attributes p (sd .few-events) (sd .few-rules) ls) (ruleAt p k) (rule-named sd k below)
+      let below : k < ruleCount p = omega (arith, rules-count p) in
+      let same = made-attributes p (sd .few-events) ls in
+      ap (enforceable (made es ls)) (rule-said p k below)
+      ∙ same-enforced p (made es ls) (eventCount p) same (ruleAt p k) (rule-named sd k below)
       ∙ rule-enforced sd k below
 
   abbrev bytes : List ℕ
@@ -99,10 +84,13 @@ module _ (p : Plan) (sd : Sound p) where
       let last = drop-next bytes (0 + length evs) rls (5 ∷ []) (0 + length evs + length rls) middle refl in
       let size : 0 + length evs + length rls + 1 ≡ length bytes =
       omega (arith, ap length (sheet-parts p), length-append evs (rls ++ (5 ∷ [])), length-append rls (5 ∷ [])) in
+      let few : length es ≤ 16 = omega (arith, events-count p, sd .few-events) in
+      let few-rules : length rs ≤ 16 = omega (arith, rules-count p, sd .few-rules) in
+      let few-lines : length ls ≤ 16 = omega (arith, length-map rs lineOf) in
       sym (read-enough enough bytes (omega arith))
-      ∙ read-events bytes es [] (length rs + suc (length bytes)) 0 (rls ++ (5 ∷ [])) (sheet-parts p) (omega (arith, event-count, sd .few-events)) event-fine
-      ∙ read-rules bytes rs es [] (suc (length bytes)) (0 + length evs) (5 ∷ []) middle (omega (arith, event-count, sd .few-events)) (omega (arith, rule-count, sd .few-rules)) rule-names rule-holds
-      ∙ read-last bytes (length bytes) (0 + length evs + length rls) (made es ls) (omega (arith, event-count, sd .few-events)) (omega (arith, length-map rs lineOf, rule-count, sd .few-rules)) last
+      ∙ read-events bytes es [] (length rs + suc (length bytes)) 0 (rls ++ (5 ∷ [])) (sheet-parts p) (omega arith) event-fine
+      ∙ read-rules bytes rs es [] (suc (length bytes)) (0 + length evs) (5 ∷ []) middle few (omega arith) rule-names rule-holds
+      ∙ read-last bytes (length bytes) (0 + length evs + length rls) (made es ls) few few-lines last
       ∙ (λ i. whole (plain-made p i) (size i))
 
   sheet-reads : readSheet bytes ≡ admitted (firstState (plain p))

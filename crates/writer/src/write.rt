@@ -10,7 +10,8 @@ ghost use lib.ListN.{length};
 ghost use Rattle.writer.specs.Writing.{lengthReply, writeReply, bufferAfter};
 ghost use Rattle.writer.specs.Internal.Records.{refusal};
 
-// What writing a sheet gives: whether it is made, and the sheet's length, which is 0 where number 12 applies.
+// What writing a sheet gives: whether it is taken, and the sheet's length, also where the buffer is too short; 0 where number
+// 12 applies.
 pub struct SheetReply {
     pub answer: Answer,
     pub length: usize,

@@ -28,20 +28,24 @@ slice-aggregate-put-line c = search needs
 
 put-line-requires : tie.Need-put-line-requires
 put-line-requires c κs =
+    let args = c .before .before .before .before .before .before .args in
+    let number = c .before .before .before .sheet-fault-number in
     room-then
-    (refusedLead ++ decimal (c .before .before .before .sheet-fault-number .result))
-    (line (atLead ++ decimal (c .before .before .before .before .before .before .args .offset)))
-    (fault-is (c .before .before .before .before .before .before .args .fault) (c .before .before .before .before .before .before .args .offset) (c .before .before .before .sheet-fault-number .result) (c .before .before .before .sheet-fault-number .ensures))
+    (refusedLead ++ decimal (number .result))
+    (line (atLead ++ decimal (args .offset)))
+    (fault-is (args .fault) (args .offset) (number .result) (number .ensures))
     0 _
     (omega arith)
     (c .before .before .put-count .ensures .ends)
 
 returns : tie.Need-returns
 returns c =
+    let args = c .before .before .before .before .before .before .before .args in
+    let number = c .before .before .before .before .sheet-fault-number in
     put-both
-    (refusedLead ++ decimal (c .before .before .before .before .sheet-fault-number .result))
-    (line (atLead ++ decimal (c .before .before .before .before .before .before .before .args .offset)))
-    (fault-is (c .before .before .before .before .before .before .before .args .fault) (c .before .before .before .before .before .before .before .args .offset) (c .before .before .before .before .sheet-fault-number .result) (c .before .before .before .before .sheet-fault-number .ensures))
+    (refusedLead ++ decimal (number .result))
+    (line (atLead ++ decimal (args .offset)))
+    (fault-is (args .fault) (args .offset) (number .result) (number .ensures))
     (c .before .before .before .put-count .ensures)
     (c .put-line .ensures)
 

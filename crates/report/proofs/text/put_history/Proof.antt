@@ -52,14 +52,18 @@ loop-less c = omega arith
 
 loop-again : tie.Need-loop-again Inv-loop μ-loop
 loop-again c =
-    (omega arith, put-as (sym (lines-next (c .before .before .before .before .before .before .args .t3) (c .before .before .before .before .before .before .args .len) (c .before .before .before .before .before .before .good .1 .1 .0 .1 .0 .1) (c .before .before .before .before .loop .i) (omega arith))) (put-then (c .before .before .before .before .loop .inv .1) (c .put-entry .ensures)))
+    let turn = c .before .before .before .before in
+    let start = turn .before .before in
+    let next = lines-next (start .args .t3) (start .args .len) (start .good .1 .1 .0 .1 .0 .1) (turn .loop .i) (omega arith) in
+    (omega arith, put-as (sym next) (put-then (turn .loop .inv .1) (c .put-entry .ensures)))
 
 returns : tie.Need-returns Inv-loop μ-loop
 returns c =
-    let e : c .before .loop .i ≡ min (c .before .before .before .args .len) 16 = omega arith in
-    put-as
-    (ap (λ (k : ℕ). historyLines (take k (c .before .before .before .args .t3))) e ∙ lines-all (c .before .before .before .args .t3) (c .before .before .before .args .len) (c .before .before .before .good .1 .1 .0 .1 .0 .1))
-    (c .before .loop .inv .1)
+    let start = c .before .before .before in
+    let history = start .args .t3 in
+    let e : c .before .loop .i ≡ min (start .args .len) 16 = omega arith in
+    let all = lines-all history (start .args .len) (start .good .1 .1 .0 .1 .0 .1) in
+    put-as (ap (λ (k : ℕ). historyLines (take k history)) e ∙ all) (c .before .loop .inv .1)
 
 pub put-history-spec : {M : Type 1} → statement M
 put-history-spec =

@@ -24,10 +24,24 @@ check-rule-requires : tie.Need-check-rule-requires
 check-rule-requires c κs = search needs
 
 returns-3 : tie.Need-returns-3
-returns-3 c = c .check-rule .ensures ∙ rule-next _ _ _ (c .before .rule-of .ensures) (c .before .before .before .before .before .before .if1 .left) (attributes-row (c .before .before .before .before .before .before .before .before .args .rec) _ (c .before .before .before .before .before .are-bad .ensures) ∙ c .before .before .before .before .if2 .left) (sym (c .before .before .before .new-rules .ensures) ∙ c .before .before .if3 .taken)
+returns-3 c =
+    let tested = c .before .before .before .before in
+    let good = attributes-row (tested .before .before .before .before .args .rec) _ (tested .before .are-bad .ensures) in
+    c .check-rule .ensures
+    ∙ rule-next _ _ _
+    (c .before .rule-of .ensures)
+    (tested .before .before .if1 .left)
+    (good ∙ tested .if2 .left)
+    (sym (c .before .before .before .new-rules .ensures) ∙ c .before .before .if3 .taken)
 
 returns-4 : tie.Need-returns-4
-returns-4 c = fine-event _ _ (c .before .before .before .before .if1 .left) (attributes-row (c .before .before .before .before .before .before .args .rec) _ (c .before .before .before .are-bad .ensures) ∙ c .before .before .if2 .left) (λ e. c .if3 .left (c .before .new-rules .ensures ∙ e))
+returns-4 c =
+    let tested = c .before .before in
+    let good = attributes-row (tested .before .before .before .before .args .rec) _ (tested .before .are-bad .ensures) in
+    fine-event _ _
+    (tested .before .before .if1 .left)
+    (good ∙ tested .if2 .left)
+    (λ e. c .if3 .left (c .before .new-rules .ensures ∙ e))
 
 pub check-body-spec : {M : Type 1} → statement M
 check-body-spec =

@@ -37,7 +37,14 @@ check-body-requires : tie.Need-check-body-requires
 check-body-requires c κs = search needs
 
 returns-5 : tie.Need-returns-5
-returns-5 c = c .check-body .ensures ∙ body-next _ _ _ _ (c .before .before .before .before .before .before .if1 .left) (c .before .before .before .before .before .if2 .left) (omega arith) (sym (c .before .before .is-full .ensures) ∙ c .before .if4 .left)
+returns-5 c =
+    let kind-tested = c .before .before .before .before .before in
+    c .check-body .ensures
+    ∙ body-next _ _ _ _
+    (kind-tested .before .if1 .left)
+    (kind-tested .if2 .left)
+    (omega arith)
+    (sym (c .before .before .is-full .ensures) ∙ c .before .if4 .left)
 
 pub check-record-spec : {M : Type 1} → statement M
 check-record-spec =

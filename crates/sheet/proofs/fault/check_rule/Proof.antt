@@ -16,10 +16,18 @@ is-enforceable-requires : tie.Need-is-enforceable-requires
 is-enforceable-requires c κs = search needs
 
 returns-2 : tie.Need-returns-2
-returns-2 c = bad-rule _ _ (sym (c .before .before .before .before .are-named .ensures) ∙ not-false _ (c .before .before .before .if1 .left)) (sym (c .before .is-enforceable .ensures (c .before .before .before .before .before .args .plan) refl) ∙ not-true _ (c .if2 .taken))
+returns-2 c =
+    let named = c .before .before .before in
+    bad-rule _ _
+    (sym (named .before .are-named .ensures) ∙ not-false _ (named .if1 .left))
+    (sym (c .before .is-enforceable .ensures (named .before .before .args .plan) refl) ∙ not-true _ (c .if2 .taken))
 
 returns-3 : tie.Need-returns-3
-returns-3 c = fine-rule _ _ (sym (c .before .before .before .before .are-named .ensures) ∙ not-false _ (c .before .before .before .if1 .left)) (sym (c .before .is-enforceable .ensures (c .before .before .before .before .before .args .plan) refl) ∙ not-false _ (c .if2 .left))
+returns-3 c =
+    let named = c .before .before .before in
+    fine-rule _ _
+    (sym (named .before .are-named .ensures) ∙ not-false _ (named .if1 .left))
+    (sym (c .before .is-enforceable .ensures (named .before .before .args .plan) refl) ∙ not-false _ (c .if2 .left))
 
 pub check-rule-spec : {M : Type 1} → statement M
 check-rule-spec =
