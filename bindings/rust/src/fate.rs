@@ -4,8 +4,8 @@ use std::fmt;
 
 /// What has become of an event.
 ///
-/// More variants will come: a library of a later version knows a fate `forced`,
-/// with number 5. Until this crate names it, it is [`Fate::Other`].
+/// More variants may come with later versions of the library. Until this crate names
+/// one, it is [`Fate::Other`].
 ///
 /// ```
 /// use sinewhopa::Fate;
@@ -27,6 +27,20 @@ pub enum Fate {
     Refused,
     /// It was open when its step was closed.
     Lapsed,
+    /// It was open, a rule asked for it, and the scheduler brought it about: no office had
+    /// reported it. It counts as done for every rule. Handed in later, it stays forced.
+    ///
+    /// ```
+    /// use sinewhopa::{Fate, State};
+    ///
+    /// // 0 only if 1, which may be brought about.
+    /// let mut state = State::open(&[1, 0, 1, 1, 1, 1, 3, 0, 1, 5])?;
+    /// assert_eq!(state.submit(0)?, Fate::Done);
+    /// assert_eq!(state.fate(1), Some(Fate::Forced));
+    /// assert_eq!(state.submit(1)?, Fate::Forced); // the report comes too late
+    /// # Ok::<(), Box<dyn std::error::Error>>(())
+    /// ```
+    Forced,
     /// A fate that this crate has no name for yet, by its number.
     Other(u8),
 }
@@ -47,6 +61,7 @@ impl Fate {
             2 => Fate::Done,
             3 => Fate::Refused,
             4 => Fate::Lapsed,
+            5 => Fate::Forced,
             _ => Fate::Other(number),
         }
     }
@@ -59,6 +74,7 @@ impl Fate {
             Fate::Done => 2,
             Fate::Refused => 3,
             Fate::Lapsed => 4,
+            Fate::Forced => 5,
             Fate::Other(number) => number,
         }
     }
@@ -67,6 +83,22 @@ impl Fate {
     /// never changes again.
     pub fn is_settled(self) -> bool {
         self.number() > Fate::Held.number()
+    }
+
+    /// Done or forced: the event has come about, whether an office has reported it or
+    /// not. Rules make no difference between the two.
+    ///
+    /// ```
+    /// use sinewhopa::{Fate, State};
+    ///
+    /// let mut state = State::open(&[1, 0, 1, 1, 1, 1, 3, 0, 1, 5])?; // 0 only if 1
+    /// state.submit(0)?;
+    /// assert!(state.history().all(|(_, fate)| fate.counts_as_done()));
+    /// assert!(!Fate::Held.counts_as_done() && !Fate::Lapsed.counts_as_done());
+    /// # Ok::<(), Box<dyn std::error::Error>>(())
+    /// ```
+    pub fn counts_as_done(self) -> bool {
+        matches!(self, Fate::Done | Fate::Forced)
     }
 }
 
@@ -79,6 +111,7 @@ impl fmt::Display for Fate {
             Fate::Done => out.pad("done"),
             Fate::Refused => out.pad("refused"),
             Fate::Lapsed => out.pad("lapsed"),
+            Fate::Forced => out.pad("forced"),
             Fate::Other(number) => write!(out, "fate {number}"),
         }
     }

@@ -4,10 +4,11 @@
 //! reported to it, closes steps and winds up; it may store the state's 384 bytes
 //! after each call and go on from them after a restart. Replies that come together
 //! are handed in together, by [`State::submit_all`]. What an event would settle can be
-//! asked before it is handed in, by [`State::preview`]. The sheet that a colleague is to
-//! start from is written by [`State::to_sheet`]. [`run`] makes a whole list of calls on a
-//! sheet in one go. What sheets and calls are, byte by byte, and what each call does is
-//! in the repository's README.
+//! asked before it is handed in, by [`State::preview`]. Events that no office has reported
+//! and that the scheduler has brought about are [`Fate::Forced`]. The sheet that a
+//! colleague is to start from is written by [`State::to_sheet`]. [`run`] makes a whole list
+//! of calls on a sheet in one go. What sheets and calls are, byte by byte, and what each
+//! call does is in the repository's README.
 //!
 //! ```
 //! use sinewhopa::{Fate, State};

@@ -1,13 +1,11 @@
 //! What handing in an event would settle.
 
-use crate::raw::{ADDED_COUNTS, ADDED_DONE, ADDED_LAPSED, ADDED_REFUSED};
-
-/// Where the library writes the fourth count, which has no name in the header yet.
-const ADDED_FORCED: usize = 3;
+use crate::raw::{ADDED_COUNTS, ADDED_DONE, ADDED_FORCED, ADDED_LAPSED, ADDED_REFUSED};
 
 /// What handing in an event would settle, as [`State::preview`](crate::State::preview)
-/// gives it: how many lines the history would get, by fate. Both the event itself, where
-/// it would not be held, and the held ones that would be settled with it are counted.
+/// gives it: how many lines the history would get, by fate. The event itself is counted,
+/// where it would not be held, and so are the held ones that would be settled with it and
+/// the open ones that would be forced.
 ///
 /// ```
 /// use sinewhopa::{Preview, State};
@@ -22,14 +20,26 @@ const ADDED_FORCED: usize = 3;
 /// ```
 #[derive(Clone, Copy, Debug, Default, PartialEq, Eq, Hash)]
 pub struct Preview {
-    /// How many events would be done.
+    /// How many events would be done; those that would be forced are not among them.
     pub done: u8,
     /// How many events would be refused.
     pub refused: u8,
     /// How many events would lapse: 0, as only closing a step lets events lapse.
     pub lapsed: u8,
-    /// How many events would be forced: 0, as an event that is forced counts as done. A
-    /// library of a later version, which has a fate for it, counts it here.
+    /// How many events would be forced: open ones, which no office has reported and which
+    /// would be brought about. The event that is handed in is never one of them.
+    ///
+    /// ```
+    /// use sinewhopa::{Preview, State};
+    ///
+    /// // 0 only if 1, which may be brought about.
+    /// let mut state = State::open(&[1, 0, 1, 1, 1, 1, 3, 0, 1, 5])?;
+    /// let (done, forced) = (1, 1); // 0, and 1 with it
+    /// assert_eq!(state.preview(0)?, Preview { done, forced, ..Preview::default() });
+    /// state.submit(1)?; // reported in time
+    /// assert_eq!(state.preview(0)?, Preview { done, ..Preview::default() });
+    /// # Ok::<(), Box<dyn std::error::Error>>(())
+    /// ```
     pub forced: u8,
 }
 

@@ -45,6 +45,9 @@ pub const ADDED_REFUSED: usize = 1;
 /// Where [`preview`] writes how many lines would be lapsed.
 pub const ADDED_LAPSED: usize = 2;
 
+/// Where [`preview`] writes how many lines would be forced.
+pub const ADDED_FORCED: usize = 3;
+
 /// How many counts [`preview`] writes.
 pub const ADDED_COUNTS: usize = 4;
 
@@ -147,10 +150,10 @@ pub fn submit_all(state: &mut [u8; STATE_LEN], entries: &mut [Entry]) -> u8 {
 }
 
 /// Counts what handing in an event would settle: the lines that [`submit`] would add to
-/// the history, by fate. Gives 0 and writes how many would be done, refused and lapsed
-/// (none, of a hand-in), and a fourth count, which is 0 and kept for a later fate; all are
-/// 0 for an event that is not open any more. Or gives what [`submit`] would, 12 or 9, and
-/// `added` is left as it was. The state is only read.
+/// the history, by fate. Gives 0 and writes how many would be done, refused, lapsed (none,
+/// of a hand-in) and forced, which are not counted as done too; all are 0 for an event
+/// that is not open any more. Or gives what [`submit`] would, 12 or 9, and `added` is left
+/// as it was. The state is only read.
 ///
 /// ```
 /// use sinewhopa::raw::{self, ADDED_COUNTS, ADDED_DONE};

@@ -47,8 +47,10 @@ impl State {
     }
 
     /// Hands in an event and gives its fate: done, held or refused. Further events
-    /// may be settled with it; they have their lines at the end of the history. An
-    /// event that is not open any more keeps its fate, which is given again.
+    /// may be settled with it; they have their lines at the end of the history, where
+    /// those that were open are forced. An event that is not open any more keeps its
+    /// fate, which is given again; so one that was forced before it was reported gives
+    /// [`Fate::Forced`].
     ///
     /// ```
     /// use sinewhopa::{CallFault, Fate, State};

@@ -326,6 +326,7 @@ fn batches_of_any_entries_are_as_single_calls() {
         (0, 2),
         (0, 3),
         (0, 4),
+        (0, 5),
         (2, 0),
         (9, 0),
         (10, 0),

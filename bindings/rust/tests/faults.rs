@@ -28,7 +28,8 @@ fn every_number_has_a_fault_and_a_fate() {
         assert_eq!(matches!(call, CallFault::Other(_)), !named);
         let fate = Fate::from_number(number);
         assert_eq!((fate.number(), fate.is_settled()), (number, number > 1));
-        assert_eq!(matches!(fate, Fate::Other(_)), number > 4);
+        assert_eq!(fate.counts_as_done(), [2, 5].contains(&number));
+        assert_eq!(matches!(fate, Fate::Other(_)), number > 5);
     }
 }
 
@@ -45,6 +46,7 @@ fn numbers_without_a_name_are_said() {
     );
     assert_eq!(said[1], "turned down by number 61");
     assert_eq!(Fate::from_number(62).to_string(), "fate 62");
+    assert_eq!(Fate::from_number(5).to_string(), "forced");
 }
 
 /// Each of the eight faults of a sheet, with its offset.

@@ -33,12 +33,14 @@ fn numbers_are_the_headers() {
         ("ADDED_DONE", raw::ADDED_DONE),
         ("ADDED_REFUSED", raw::ADDED_REFUSED),
         ("ADDED_LAPSED", raw::ADDED_LAPSED),
+        ("ADDED_FORCED", raw::ADDED_FORCED),
         ("ADDED_COUNTS", raw::ADDED_COUNTS),
         ("OPEN", Fate::Open.number().into()),
         ("HELD", Fate::Held.number().into()),
         ("DONE", Fate::Done.number().into()),
         ("REFUSED", Fate::Refused.number().into()),
         ("LAPSED", Fate::Lapsed.number().into()),
+        ("FORCED", Fate::Forced.number().into()),
         ("CUT", SheetFault::Cut { at }.number().into()),
         ("BAD_KIND", SheetFault::BadKind { at }.number().into()),
         ("FULL", SheetFault::Full { at }.number().into()),
@@ -145,10 +147,11 @@ fn readers_read_the_headers_fields() {
 /// A preview has its counts from the header's places.
 #[test]
 fn a_preview_reads_the_headers_counts() {
-    // 0 and 2 come as they come; 1 only if 2, and before 0; 3 after 0.
+    // 0 and 2 come as they come; 1 only if 2, and before 0; 3 after 0. 0 only if 4, which
+    // may be brought about.
     let sheet = [
-        1, 0, 0, 1, 1, 6, 1, 2, 0, 1, 3, 6, // events
-        3, 1, 2, 2, 1, 0, 2, 0, 3, // rules
+        1, 0, 0, 1, 1, 6, 1, 2, 0, 1, 3, 6, 1, 4, 1, // events
+        3, 1, 2, 2, 1, 0, 2, 0, 3, 3, 0, 4, // rules
         5,
     ];
     let mut state = State::open(&sheet).expect("an admitted sheet");
@@ -160,8 +163,9 @@ fn a_preview_reads_the_headers_counts() {
     let mut counts = vec![0; constants["ADDED_COUNTS"]];
     counts[constants["ADDED_DONE"]] = 2; // 0 and 3
     counts[constants["ADDED_REFUSED"]] = 1; // 1, for which it is too late then
+    counts[constants["ADDED_FORCED"]] = 1; // 4
     assert_eq!(added[..], counts);
     let preview = state.preview(0).expect("a declared event");
     assert_eq!((preview.done, preview.refused), (2, 1));
-    assert_eq!((preview.lapsed, preview.forced), (0, 0));
+    assert_eq!((preview.lapsed, preview.forced), (0, 1));
 }

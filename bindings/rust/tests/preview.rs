@@ -3,14 +3,13 @@
 
 mod common;
 
-use common::{changes, open, Bytes, Numbers, FATE, PARTIES};
-use sinewhopa::raw::{self, ADDED_COUNTS, ADDED_DONE, ADDED_LAPSED, ADDED_REFUSED};
+use common::{changes, open, Bytes, Numbers, FATE, LINE_FATE, PARTIES};
+use sinewhopa::raw::{self, ADDED_COUNTS, ADDED_DONE, ADDED_FORCED, ADDED_LAPSED, ADDED_REFUSED};
 use sinewhopa::{Call, CallFault, Fate, Preview, State, STATE_LEN};
 use std::collections::BTreeSet;
 
-/// Where a state's bytes have how many lines there are, and the fates of lines.
+/// Where a state's bytes have how many lines there are.
 const LINES: usize = 3;
-const LINE_FATE: usize = 156;
 
 /// 0 and 2 come as they come. 1 after 0, and only if 0 and 2; 3, of 2's step, only if 2,
 /// and before 0; 4 only if 2.
@@ -40,6 +39,7 @@ fn handed_in(bytes: &Bytes, event: u8) -> (u8, [u8; ADDED_COUNTS]) {
             Fate::Done => ADDED_DONE,
             Fate::Refused => ADDED_REFUSED,
             Fate::Lapsed => ADDED_LAPSED,
+            Fate::Forced => ADDED_FORCED,
             _ => panic!("a line that is {fate}"),
         };
         added[place] += 1;
@@ -180,12 +180,22 @@ fn a_sheet_without_events_has_none_to_ask_about() {
     all_asked(&open(&[5]), &[]);
 }
 
-/// 0 and 1 are forcible alone, and 0 needs 1: it is brought about, and counts as done;
-/// or it has lapsed, and 0 is done alone. Asking records no rule as broken.
+/// 0 and 1 are forcible alone, and 0 needs 1: it is brought about, and counted as forced;
+/// or it has been handed in or has lapsed, and 0 is done alone. Asking records no rule as
+/// broken.
 #[test]
-fn forced_events_count_as_done() {
+fn forced_events_are_counted_apart() {
     let mut state = open(&[1, 0, 1, 1, 1, 1, 3, 0, 1, 5]);
-    all_asked(&state, &[(2, 0), (1, 0)]);
+    let forced = Preview {
+        forced: 1,
+        ..preview(1, 0)
+    };
+    assert_eq!(asked(&state, 0), Ok(forced));
+    assert_eq!(forced.settled(), 2);
+    assert_eq!(asked(&state, 1), Ok(preview(1, 0)));
+    let mut reported = state.clone();
+    assert_eq!(reported.submit(1), Ok(Fate::Done));
+    all_asked(&reported, &[(1, 0), (0, 0)]);
     assert_eq!(state.close_step(1), Ok(()));
     all_asked(&state, &[(1, 0), (0, 0)]);
     assert!(!state.is_broken(0));
@@ -240,12 +250,20 @@ fn previews_are_what_handing_in_adds() {
             for event in 0..=state.event_count() {
                 let preview = asked(&state, event);
                 assert_eq!(preview.is_err(), event == state.event_count());
-                met.extend(preview.map(|preview| (preview.done, preview.refused)));
+                met.extend(preview.map(|counts| (counts.done, counts.refused, counts.forced)));
             }
             numbers.call(&mut state);
         }
     }
-    let all = [(0, 0), (0, 1), (1, 0), (1, 1), (2, 0), (3, 0)];
+    let all = [
+        (0, 0, 0),
+        (0, 1, 0),
+        (1, 0, 0),
+        (1, 0, 1),
+        (1, 1, 0),
+        (2, 0, 0),
+        (3, 0, 0),
+    ];
     assert_eq!(met, BTreeSet::from(all));
 }
 

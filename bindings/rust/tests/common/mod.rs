@@ -7,8 +7,9 @@ use sinewhopa::{State, STATE_LEN};
 
 pub type Bytes = [u8; STATE_LEN];
 
-/// Where a state's bytes have the fates of events.
+/// Where a state's bytes have the fates of events, and those of lines.
 pub const FATE: usize = 100;
+pub const LINE_FATE: usize = 156;
 
 /// Two parties that commit only together, each after it has prepared; and an event
 /// that cannot be stopped and needs one that may be brought about.
