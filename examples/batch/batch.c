@@ -26,7 +26,7 @@ static const uint8_t sheet[] = {
 
 static const char *fate_word(uint8_t fate)
 {
-    static const char *const words[] = {"open", "held", "done", "refused", "lapsed"};
+    static const char *const words[] = {"open", "held", "done", "refused", "lapsed", "forced"};
     return fate < sizeof words / sizeof words[0] ? words[fate] : "unknown";
 }
 

@@ -112,7 +112,7 @@ static bool incoming(size_t plan, size_t round, call *made)
 
 static const char *fate_word(uint8_t fate)
 {
-    static const char *const words[] = {"open", "held", "done", "refused", "lapsed"};
+    static const char *const words[] = {"open", "held", "done", "refused", "lapsed", "forced"};
     return fate < sizeof words / sizeof words[0] ? words[fate] : "unknown";
 }
 
@@ -314,7 +314,7 @@ static bool report(const kept *one)
 
 static void summary(const kept *plans)
 {
-    size_t by_fate[SINEWHOPA_LAPSED + 1] = {0};
+    size_t by_fate[SINEWHOPA_FORCED + 1] = {0};
     size_t broken = 0;
     size_t turned_down = 0;
     for (size_t plan = 0; plan < PLANS; plan++) {
@@ -328,7 +328,7 @@ static void summary(const kept *plans)
         turned_down += plans[plan].turned_down;
     }
     printf("all %d plans:", PLANS);
-    for (uint8_t fate = SINEWHOPA_OPEN; fate <= SINEWHOPA_LAPSED; fate++) {
+    for (uint8_t fate = SINEWHOPA_OPEN; fate <= SINEWHOPA_FORCED; fate++) {
         printf(" %s %zu,", fate_word(fate), by_fate[fate]);
     }
     printf(" rules broken %zu, calls turned down %zu\n", broken, turned_down);

@@ -32,7 +32,7 @@ static const char *event_word(uint8_t event)
 
 static const char *fate_word(uint8_t fate)
 {
-    static const char *const words[] = {"open", "held", "done", "refused", "lapsed"};
+    static const char *const words[] = {"open", "held", "done", "refused", "lapsed", "forced"};
     return fate < sizeof words / sizeof words[0] ? words[fate] : "unknown";
 }
 
@@ -42,9 +42,11 @@ static void show_preview(uint8_t event, uint8_t number, const uint8_t *added, bo
     unsigned done = added[SINEWHOPA_ADDED_DONE];
     unsigned refused = added[SINEWHOPA_ADDED_REFUSED];
     unsigned lapsed = added[SINEWHOPA_ADDED_LAPSED];
+    unsigned forced = added[SINEWHOPA_ADDED_FORCED];
     printf("%s: would ", event_word(event));
     if (number == SINEWHOPA_TAKEN) {
-        printf("settle %u (%u done, %u refused, %u lapsed)\n", done + refused + lapsed, done, refused, lapsed);
+        printf("settle %u (%u done, %u refused, %u lapsed, %u forced)\n", done + refused + lapsed + forced, done, refused,
+               lapsed, forced);
     } else {
         printf("be turned down, %u, %s\n", (unsigned)number, as_it_was ? "nothing written" : "WRITTEN");
     }
@@ -69,13 +71,14 @@ static void show_settled(uint8_t event, uint8_t number, const sinewhopa_state *s
 /* Whether the history has grown by what the preview counted. */
 static bool is_as_counted(const uint8_t *added, const sinewhopa_state *state, uint8_t lines_before)
 {
-    unsigned by_fate[SINEWHOPA_LAPSED + 1] = {0};
+    unsigned by_fate[SINEWHOPA_FORCED + 1] = {0};
     for (uint8_t line = lines_before; line < state->lines; line++) {
         by_fate[state->line_fate[line]]++;
     }
     return by_fate[SINEWHOPA_DONE] == added[SINEWHOPA_ADDED_DONE] &&
            by_fate[SINEWHOPA_REFUSED] == added[SINEWHOPA_ADDED_REFUSED] &&
-           by_fate[SINEWHOPA_LAPSED] == added[SINEWHOPA_ADDED_LAPSED];
+           by_fate[SINEWHOPA_LAPSED] == added[SINEWHOPA_ADDED_LAPSED] &&
+           by_fate[SINEWHOPA_FORCED] == added[SINEWHOPA_ADDED_FORCED];
 }
 
 /* Asks about an event, then hands it in. False where the preview wrote what it must not, or where the two differ. */

@@ -31,7 +31,7 @@ typedef struct {
 
 static const char *fate_word(uint8_t fate)
 {
-    static const char *const words[] = {"open", "held", "done", "refused", "lapsed"};
+    static const char *const words[] = {"open", "held", "done", "refused", "lapsed", "forced"};
     return fate < sizeof words / sizeof words[0] ? words[fate] : "unknown";
 }
 

@@ -191,6 +191,7 @@ impl<'a, W: Write> Host<'a, W> {
             Fate::Done,
             Fate::Refused,
             Fate::Lapsed,
+            Fate::Forced,
         ] {
             let count = self.count(fate);
             writeln!(self.out, "{fate} {count}")?;

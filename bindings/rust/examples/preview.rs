@@ -44,11 +44,12 @@ fn name(event: u8) -> &'static str {
 fn preview_line(event: u8, asked: Result<Preview, CallFault>, as_it_was: bool) -> String {
     let would = match asked {
         Ok(preview) => format!(
-            "settle {} ({} done, {} refused, {} lapsed)",
+            "settle {} ({} done, {} refused, {} lapsed, {} forced)",
             preview.settled(),
             preview.done,
             preview.refused,
-            preview.lapsed
+            preview.lapsed,
+            preview.forced
         ),
         Err(fault) if as_it_was => format!("be turned down, {}, nothing written", fault.number()),
         Err(fault) => format!("be turned down, {}, WRITTEN", fault.number()),
@@ -75,7 +76,7 @@ fn counted(new: &[(u8, Fate)]) -> Preview {
         done: count(Fate::Done),
         refused: count(Fate::Refused),
         lapsed: count(Fate::Lapsed),
-        ..Preview::default()
+        forced: count(Fate::Forced),
     }
 }
 

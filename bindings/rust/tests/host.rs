@@ -23,7 +23,7 @@ fn nine_plans_are_told_line_by_line() {
 fn summary<'a>(lines: &[&'a str], before: &str) -> Vec<&'a str> {
     let end = lines.iter().position(|line| line.starts_with(before));
     let end = end.unwrap_or(lines.len());
-    lines[end - 8..end].to_vec()
+    lines[end - 9..end].to_vec()
 }
 
 #[test]
@@ -34,7 +34,7 @@ fn three_hundred_plans_are_summed_up() {
         summary(&lines, "restarted with 300 plans"),
         summary(&lines, "no such line"),
     ];
-    let half = "plans 300|open 661|held 142|done 481|refused 31|lapsed 285|broken rules 6|calls turned down 97";
-    let all = "plans 300|open 0|held 0|done 951|refused 121|lapsed 528|broken rules 12|calls turned down 133";
+    let half = "plans 300|open 661|held 142|done 437|refused 31|lapsed 285|forced 44|broken rules 6|calls turned down 97";
+    let all = "plans 300|open 0|held 0|done 901|refused 121|lapsed 528|forced 50|broken rules 12|calls turned down 133";
     assert_eq!(summaries.map(|lines| lines.join("|")), [half, all]);
 }
