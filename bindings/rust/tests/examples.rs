@@ -1,8 +1,12 @@
-//! The examples of a batch, a preview and a sheet print what the same hosts in C print.
+//! The examples of a batch, a preview, a sheet and forced events print what the same hosts
+//! in C print.
 
 #[allow(dead_code)]
 #[path = "../examples/batch.rs"]
 mod batch;
+#[allow(dead_code)]
+#[path = "../examples/forced.rs"]
+mod forced;
 #[allow(dead_code)]
 #[path = "../examples/preview.rs"]
 mod preview;
@@ -29,6 +33,12 @@ fn a_morning_is_told_as_in_c() {
 fn what_would_be_settled_is_told_as_in_c() {
     let in_c = include_str!("../../../examples/preview/stdout");
     assert_eq!(told(|out| preview::run(out)), in_c);
+}
+
+#[test]
+fn what_was_forced_is_told_as_in_c() {
+    let in_c = include_str!("../../../examples/forced/stdout");
+    assert_eq!(told(|out| forced::run(out)), in_c);
 }
 
 #[test]
