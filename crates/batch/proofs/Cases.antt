@@ -4,7 +4,7 @@ use Prim.Native.Nat.{ℕ}
 use mathlib.Core.List.{List, [], _∷_, map}
 use mathlib.Core.Path.{_≡_, refl}
 use lib.ListN.{set, replicate}
-use Rattle.batch.specs.Types.{Fate, Done, Refused, Lapsed, Submit, Close, State, BatchEntry}
+use Rattle.batch.specs.Types.{Fate, Done, Refused, Lapsed, Forced, Submit, Close, State, BatchEntry}
 use Rattle.plan.specs.Base.{anyBelow, allBelow, firstOf, tabulate, lowest}
 use Rattle.plan.specs.Plans.{hasEvent}
 use Rattle.plan.specs.Rules.{named, enforceable, soundEvent, soundRule, bars, makesWait, forbids, owes, ready}
@@ -55,6 +55,9 @@ cases =
     (firstOn sheetA, (16, 0) ∷ (16, 1) ∷ [], 0, (0, 1) ∷ (0, 2) ∷ [], (0, Done) ∷ (1, Done) ∷ [])
     -- case B: a closing that is taken carries 0 and 0
     ∷ (firstOn sheetA, (16, 0) ∷ (17, 1) ∷ [], 0, (0, 1) ∷ (0, 0) ∷ [], (1, Lapsed) ∷ (0, Refused) ∷ [])
+    -- case D: event 1, which is forced with event 0, carries 5; handed in first it is done
+    ∷ (firstOn sheetD, (16, 0) ∷ (16, 1) ∷ [], 0, (0, 2) ∷ (0, 5) ∷ [], (0, Done) ∷ (1, Forced) ∷ [])
+    ∷ (firstOn sheetD, (16, 1) ∷ (16, 0) ∷ [], 0, (0, 2) ∷ (0, 2) ∷ [], (1, Done) ∷ (0, Done) ∷ [])
     -- cases E and G: a lapsed event, one done alone, one refused
     ∷ (firstOn sheetD, (17, 1) ∷ (16, 0) ∷ (16, 1) ∷ [], 0, (0, 0) ∷ (0, 2) ∷ (0, 4) ∷ [], (1, Lapsed) ∷ (0, Done) ∷ [])
     ∷ (firstOn sheetG, (16, 1) ∷ (16, 0) ∷ [], 0, (0, 2) ∷ (0, 3) ∷ [], (1, Done) ∷ (0, Refused) ∷ [])

@@ -52,7 +52,7 @@ then-zeros : {l : List ℕ} (n : ℕ) → AllBytes l → AllBytes (l ++ replicat
 then-zeros {l} n h = record { are = bytes-append l (replicate n 0) (h .are) (bytes-zeros n) }
 
 fate-byte : (x : Fate) → isByte (fateNumber x) ≡ true
-fate-byte x = lt-ltb (fateNumber x) 256 (omega (arith, ltb-true (fateNumber x) 5 (fate-low x)))
+fate-byte x = lt-ltb (fateNumber x) 256 (omega (arith, ltb-true (fateNumber x) 6 (fate-low x)))
 
 mark-byte : (b : Bool) → isByte (oneIf b) ≡ true
 mark-byte b = lt-ltb (oneIf b) 256 (omega (arith, ltb-true (oneIf b) 2 (mark-low b)))

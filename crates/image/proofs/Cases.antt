@@ -1,9 +1,9 @@
--- Images by computation: case A byte by byte, first, with one event held, and with both done; numbers of calls; and
--- damaged images.
+-- Images by computation: case A byte by byte, first, with one event held, and with both done; case D's forced event;
+-- numbers of calls; and damaged images.
 use Prim.Native.Nat.{ℕ}
 use mathlib.Core.List.{List, [], _∷_, _++_, map}
 use mathlib.Core.Path.{_≡_, refl}
-use lib.ListN.{set, replicate}
+use lib.ListN.{getD, set, replicate}
 use Rattle.image.specs.Types.{Submit, Close, Finish}
 use Rattle.plan.specs.Base.{anyBelow, allBelow, firstOf, tabulate, lowest}
 use Rattle.plan.specs.Plans.{hasEvent}
@@ -55,6 +55,10 @@ heldA = imageA 0 (1 ∷ zeros 15) (zeros 16) (zeros 16)
 abbrev doneA : List ℕ
 doneA = imageA 2 (2 ∷ 2 ∷ zeros 14) (0 ∷ 1 ∷ zeros 14) (2 ∷ 2 ∷ zeros 14)
 
+-- case D after its one call: event 0 is done, and event 1 forced
+abbrev afterD : List ℕ
+afterD = imagesAfter (imageOf (readSheet (1 ∷ 0 ∷ 1 ∷ 1 ∷ 1 ∷ 1 ∷ 3 ∷ 0 ∷ 1 ∷ 5 ∷ []) .state)) (Submit 0 ∷ [])
+
 -- a byte of the image with event 0 held, changed, and what the check says
 abbrev Damage : Type 0
 Damage = ℕ × ℕ × ℕ
@@ -68,10 +72,12 @@ damages =
     ∷ (36, 1, 12)  -- the kinds of rules are 2 to 4
     ∷ (51, 5, 12)
     ∷ (84, 1, 12)  -- an order has no third event
-    ∷ (115, 5, 12)  -- fates are 0 to 4
+    ∷ (115, 5, 0)  -- fates are 0 to 5, also of an event that is not declared
+    ∷ (115, 6, 12)
     ∷ (131, 2, 12)  -- marks are 0 and 1
     ∷ (139, 2, 12)
-    ∷ (171, 5, 12)
+    ∷ (171, 5, 0)
+    ∷ (171, 6, 12)
     ∷ (172, 1, 12)  -- the first spare byte, and the last
     ∷ (383, 1, 12)
     ∷ (100, 2, 12)  -- an image, but done without a line
@@ -81,6 +87,7 @@ pub images :
     (imageOf (readSheet sheetA .state) ≡ firstA)
     × (imagesAfter firstA (Submit 0 ∷ []) ≡ heldA)
     × (imagesAfter firstA (Submit 0 ∷ Submit 1 ∷ []) ≡ doneA)
+    × (map (λ (k : ℕ). getD afterD k 0) (3 ∷ 100 ∷ 101 ∷ 140 ∷ 141 ∷ 156 ∷ 157 ∷ []) ≡ 2 ∷ 2 ∷ 5 ∷ 0 ∷ 1 ∷ 2 ∷ 5 ∷ [])
     × (numbersOn firstA (Submit 0 ∷ Submit 2 ∷ Close 0 ∷ Close 0 ∷ Close 2 ∷ Finish ∷ []) ≡ 0 ∷ 9 ∷ 0 ∷ 10 ∷ 9 ∷ 11 ∷ [])
     × (imagesAfter heldA (Submit 2 ∷ Close 2 ∷ Finish ∷ []) ≡ heldA)
     × (map (λ (d : Damage). checkOn (set heldA (d .0) (d .1))) damages ≡ map (λ (d : Damage). d .2) damages)
@@ -92,4 +99,4 @@ unfolding imageOf planIn stateIn placeOk isImage numberOn imageAfter numbersOn i
     toRefuse toDo settleOnce settleUpTo settle strains recordBroken doAlone decide submit lapse closeStep refuseHeld
     finish firstFault declaredOnly sameFates listedAs coherentEvent coherentRule coherent hasEvent callFault accept call
     ruleOf addEvent addRule addEvents declare recordFault ending readFrom readPlan sheetPlan readSheet
-images = (refl, refl, refl, refl, refl, refl, refl, refl)
+images = (refl, refl, refl, refl, refl, refl, refl, refl, refl)

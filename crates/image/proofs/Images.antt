@@ -114,17 +114,17 @@ module _ (b : List ℕ) (h : isImage b ≡ true) where
     place-tests : (ltb 1 (byteAt b (kindAt + i)) ≡ true)
         × (ltb (byteAt b (kindAt + i)) 5 ≡ true)
         × ((eqb (byteAt b (kindAt + i)) 4 || eqb (byteAt b (cAt + i)) 0) ≡ true)
-        × (ltb (byteAt b (fateAt + i)) 5 ≡ true)
+        × (ltb (byteAt b (fateAt + i)) 6 ≡ true)
         × (ltb (byteAt b (markAt + i)) 2 ≡ true)
-        × (ltb (byteAt b (lineFateAt + i)) 5 ≡ true)
+        × (ltb (byteAt b (lineFateAt + i)) 6 ≡ true)
     unfolding placeOk
     place-tests = and-six
         (ltb 1 (byteAt b (kindAt + i)))
         (ltb (byteAt b (kindAt + i)) 5)
         (eqb (byteAt b (kindAt + i)) 4 || eqb (byteAt b (cAt + i)) 0)
-        (ltb (byteAt b (fateAt + i)) 5)
+        (ltb (byteAt b (fateAt + i)) 6)
         (ltb (byteAt b (markAt + i)) 2)
-        (ltb (byteAt b (lineFateAt + i)) 5)
+        (ltb (byteAt b (lineFateAt + i)) 6)
         (all-at 16 (placeOk b) (tests .1) i lt)
 
     said : RuleBytes (recordIn b i)

@@ -6,7 +6,7 @@ use mathlib.Core.Bool.{Bool, true, false, _&&_, _||_}
 use mathlib.Core.Logic.{_≢_}
 use mathlib.Core.Path.{_≡_, refl, sym}
 use lib.Dec.{eqb, ltb}
-use Rattle.image.specs.Types.{Fate, Open, Held, Done, Refused, Lapsed, Rule, Order, Need, Conditional, Record, Answer, Is, Made, TurnedDown, Verdict, Faulty, SheetFault, Cut, BadKind, Full, BadStep, BadAttributes, BadNames, Unenforceable, Extra, CallFault, Unknown, AlreadyClosed, NotClosed, Incoherent, TooLong, NoRoom}
+use Rattle.image.specs.Types.{Fate, Open, Held, Done, Refused, Lapsed, Forced, Rule, Order, Need, Conditional, Record, Answer, Is, Made, TurnedDown, Verdict, Faulty, SheetFault, Cut, BadKind, Full, BadStep, BadAttributes, BadNames, Unenforceable, Extra, CallFault, Unknown, AlreadyClosed, NotClosed, Incoherent, TooLong, NoRoom}
 use Rattle.plan.specs.Base.{oneIf}
 use Rattle.plan.specs.Fates.{fateNumber}
 use Rattle.plan.specs.Faults.{sheetFaultNumber, callFaultNumber, answerNumber}
@@ -19,20 +19,23 @@ fate-back Held = refl
 fate-back Done = refl
 fate-back Refused = refl
 fate-back Lapsed = refl
+fate-back Forced = refl
 
-pub fate-low : (x : Fate) → ltb (fateNumber x) 5 ≡ true
+pub fate-low : (x : Fate) → ltb (fateNumber x) 6 ≡ true
 fate-low Open = refl
 fate-low Held = refl
 fate-low Done = refl
 fate-low Refused = refl
 fate-low Lapsed = refl
+fate-low Forced = refl
 
-pub number-back : (n : ℕ) → ltb n 5 ≡ true → fateNumber (fateFrom n) ≡ n
+pub number-back : (n : ℕ) → ltb n 6 ≡ true → fateNumber (fateFrom n) ≡ n
 number-back zero h = refl
 number-back (suc zero) h = refl
 number-back (suc (suc zero)) h = refl
 number-back (suc (suc (suc zero))) h = refl
-number-back (suc (suc (suc (suc n)))) h = omega (arith, ltb-true (suc (suc (suc (suc n)))) 5 h)
+number-back (suc (suc (suc (suc zero)))) h = refl
+number-back (suc (suc (suc (suc (suc n))))) h = omega (arith, ltb-true (suc (suc (suc (suc (suc n))))) 6 h)
 
 pub mark-back : (b : Bool) → eqb (oneIf b) 1 ≡ b
 mark-back true = refl
@@ -84,12 +87,13 @@ rule-bytes (suc (suc (suc (suc zero)))) x y z lo hi h = record { kind-is = refl;
 rule-bytes (suc (suc (suc (suc (suc k))))) x y z lo hi h = absurd (omega (arith, ltb-true (suc (suc (suc (suc (suc k))))) 5 hi))
 
 -- a number past the others is the last fate's
-pub fate-past : (n : ℕ) → n ≢ 0 → n ≢ 1 → n ≢ 2 → n ≢ 3 → Lapsed ≡ fateFrom n
-fate-past zero a b c d = absurd (a refl)
-fate-past (suc zero) a b c d = absurd (b refl)
-fate-past (suc (suc zero)) a b c d = absurd (c refl)
-fate-past (suc (suc (suc zero))) a b c d = absurd (d refl)
-fate-past (suc (suc (suc (suc n)))) a b c d = refl
+pub fate-past : (n : ℕ) → n ≢ 0 → n ≢ 1 → n ≢ 2 → n ≢ 3 → n ≢ 4 → Forced ≡ fateFrom n
+fate-past zero a b c d e = absurd (a refl)
+fate-past (suc zero) a b c d e = absurd (b refl)
+fate-past (suc (suc zero)) a b c d e = absurd (c refl)
+fate-past (suc (suc (suc zero))) a b c d e = absurd (d refl)
+fate-past (suc (suc (suc (suc zero)))) a b c d e = absurd (e refl)
+fate-past (suc (suc (suc (suc (suc n))))) a b c d e = refl
 
 -- the rule of each kind
 module _ (k x y z : ℕ) where

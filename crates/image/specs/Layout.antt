@@ -6,7 +6,7 @@ use mathlib.Core.List.{List, [], _∷_, _++_}
 use mathlib.Core.Path.{_≡_}
 use lib.Dec.{eqb, ltb}
 use lib.ListN.{length, getD, replicate}
-use Rattle.image.specs.Types.{Fate, Open, Held, Done, Refused, Lapsed, Standing, Event, Rule, Order, Need, Conditional, RuleLine, Plan, Entry, Record, State}
+use Rattle.image.specs.Types.{Fate, Open, Held, Done, Refused, Lapsed, Forced, Standing, Event, Rule, Order, Need, Conditional, RuleLine, Plan, Entry, Record, State}
 use Rattle.plan.specs.Base.{oneIf, allBelow, tabulate, readAt}
 use Rattle.plan.specs.Fates.{fateNumber}
 use Rattle.plan.specs.Plans.{eventCount, ruleCount, stepOf, attributesOf, ruleAt}
@@ -90,7 +90,7 @@ byteAt b k = getD b k 0
 
 -- the fate of a number
 abbrev pub fateFrom : ℕ → Fate
-fateFrom n = getD (Open ∷ Held ∷ Done ∷ Refused ∷ []) n Lapsed
+fateFrom n = getD (Open ∷ Held ∷ Done ∷ Refused ∷ Lapsed ∷ []) n Forced
 
 -- each part that bytes say: a rule's four bytes are read as a sheet's record
 abbrev pub eventIn : List ℕ → ℕ → Event
@@ -138,9 +138,9 @@ placeOk b i =
     ltb 1 (byteAt b (kindAt + i))
     && ltb (byteAt b (kindAt + i)) 5
     && (eqb (byteAt b (kindAt + i)) 4 || eqb (byteAt b (cAt + i)) 0)
-    && ltb (byteAt b (fateAt + i)) 5
+    && ltb (byteAt b (fateAt + i)) 6
     && ltb (byteAt b (markAt + i)) 2
-    && ltb (byteAt b (lineFateAt + i)) 5
+    && ltb (byteAt b (lineFateAt + i)) 6
 
 -- bytes that some state is written with (proved: of 384 bytes exactly these)
 unfoldable pub isImage : List ℕ → Bool

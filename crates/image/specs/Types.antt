@@ -1,6 +1,6 @@
 -- The types that `plan` and `scheduler` declare, under one name each.
 pub use Rattle.plan.specs.declared.fate.Fate.{Fate}
-pub use Rattle.plan.specs.declared.fate.Fate.the-variants.{Open, Held, Done, Refused, Lapsed}
+pub use Rattle.plan.specs.declared.fate.Fate.the-variants.{Open, Held, Done, Refused, Lapsed, Forced}
 pub use Rattle.plan.specs.declared.fate.Standing.{Standing}
 pub use Rattle.plan.specs.declared.event.Event.{Event}
 pub use Rattle.plan.specs.declared.rule.Rule.{Rule}

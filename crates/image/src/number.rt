@@ -44,7 +44,10 @@ pub(crate) fn fate_from(n: u8) -> Fate
     if n == 3 {
         return Fate::Refused;
     }
-    Fate::Lapsed
+    if n == 4 {
+        return Fate::Lapsed;
+    }
+    Fate::Forced
 }
 
 // The rule of four bytes.

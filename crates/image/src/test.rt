@@ -33,9 +33,9 @@ fn is_place(image: &[u8; 384], i: usize) -> bool
     (1 < kind)
         & (kind < 5)
         & ((kind == 4) | (image[84 + i] == 0))
-        & (image[100 + i] < 5)
+        & (image[100 + i] < 6)
         & (image[116 + i] < 2)
-        & (image[156 + i] < 5)
+        & (image[156 + i] < 6)
 }
 
 // Are the marks of the steps marks?

@@ -5,12 +5,13 @@ use borrow.Author.Tests.{lt-ltb, eq-eqb, ne-eqb}
 use mathlib.Core.Bool.{Bool, true, false, not, _&&_, _||_, and-false, and-true}
 use mathlib.Core.Path.{_≡_, refl, sym, _∙_, ap}
 use lib.Dec.{eqb, ltb}
-use Rattle.plan.specs.declared.fate.Fate.the-variants.{Done}
+use Rattle.plan.specs.declared.fate.Fate.the-variants.{Done, Forced}
 use Rattle.plan.specs.Fates.{Fates, isOpen, isHeld, isDone, isGone}
 use Rattle.plan.specs.Plans.{eventCount, forcible}
 use Rattle.plan.specs.Rules.{ready}
+use Rattle.plan.proofs.Fates.{as-done}
 use Rattle.orders.specs.Runs.{doing}
-use Rattle.orders.proofs.Doing.{doing-same, doing-other}
+use Rattle.orders.proofs.Doing.{doing-as, doing-other}
 use Rattle.members.specs.Prelude.{Fate, Plan, View}
 use Rattle.members.specs.Sets.{inSet, Shows}
 use Rattle.members.proofs.Bits.{in-one}
@@ -18,14 +19,15 @@ use Rattle.members.proofs.Bits.{in-one}
 module _ (p : Plan) (f : Fates) (c : ℕ) (lt : c < 16) (one : ℕ) (is-one : (x : ℕ) → inSet one x ≡ ((eqb x c && (ltb c 16 && true)) || inSet 0 x)) where
   -- a set of events with a fate that is not done loses the event
   leaves : (k : ℕ → Bool) (t : ℕ → Fate → Bool)
+      → ((x : ℕ) → t x Forced ≡ t x Done)
       → ((x : ℕ) → t x Done ≡ false)
       → (m n : ℕ)
       → ((x : ℕ) → inSet m x ≡ (k x && t x (f x)))
       → ((x : ℕ) → inSet n x ≡ (inSet m x && not (inSet one x)))
       → (x : ℕ)
       → inSet n x ≡ (k x && t x (doing f c x))
-  leaves k t unset m n before after x = elim (ℕ-discrete x c) [
-    | yes q ↦ after x ∙ ap (λ (b : Bool). inSet m x && not b) (in-one c one lt is-one x ∙ eq-eqb x c q) ∙ and-false (inSet m x) ∙ sym (ap (λ (b : Bool). k x && b) (ap (t x) (doing-same f c x q) ∙ unset x) ∙ and-false (k x))
+  leaves k t alike unset m n before after x = elim (ℕ-discrete x c) [
+    | yes q ↦ after x ∙ ap (λ (b : Bool). inSet m x && not b) (in-one c one lt is-one x ∙ eq-eqb x c q) ∙ and-false (inSet m x) ∙ sym (ap (λ (b : Bool). k x && b) (doing-as (t x) (alike x) f c x q ∙ unset x) ∙ and-false (k x))
     | no ne ↦ after x ∙ ap (λ (b : Bool). inSet m x && not b) (in-one c one lt is-one x ∙ ne-eqb x c ne) ∙ and-true (inSet m x) ∙ before x ∙ sym (ap (λ (z : Fate). k x && t x z) (doing-other f c x ne))
   ]
 
@@ -35,7 +37,7 @@ module _ (p : Plan) (f : Fates) (c : ℕ) (lt : c < 16) (one : ℕ) (is-one : (x
       → (x : ℕ)
       → inSet n x ≡ isDone (doing f c x)
   joins m n before after x = elim (ℕ-discrete x c) [
-    | yes q ↦ after x ∙ rw (eq-eqb x c q, lt-ltb c 16 lt)
+    | yes q ↦ after x ∙ rw (eq-eqb x c q, lt-ltb c 16 lt) (sym (as-done isDone refl (isOpen (f c))))
     | no ne ↦ after x ∙ rw (ne-eqb x c ne) (before x)
   ]
 
@@ -48,9 +50,9 @@ module _ (p : Plan) (f : Fates) (c : ℕ) (lt : c < 16) (one : ℕ) (is-one : (x
         → Shows p (doing f c) w
     unfolding ready
     shows-after held able done gone waits = record {
-      held = leaves (λ x. ltb x (eventCount p)) (λ x. isHeld) (λ x. refl) (v .held) (w .held) (shows .held) held;
-      able = leaves (λ x. ltb x (eventCount p)) (λ x z. isHeld z || (isOpen z && forcible p x)) (λ x. refl) (v .able) (w .able) (shows .able) able;
+      held = leaves (λ x. ltb x (eventCount p)) (λ x. isHeld) (λ x. refl) (λ x. refl) (v .held) (w .held) (shows .held) held;
+      able = leaves (λ x. ltb x (eventCount p)) (λ x z. isHeld z || (isOpen z && forcible p x)) (λ x. refl) (λ x. refl) (v .able) (w .able) (shows .able) able;
       done = joins (v .done) (w .done) (shows .done) done;
-      gone = leaves (λ x. true) (λ x. isGone) (λ x. refl) (v .gone) (w .gone) (shows .gone) gone;
+      gone = leaves (λ x. true) (λ x. isGone) (λ x. refl) (λ x. refl) (v .gone) (w .gone) (shows .gone) gone;
       waits = λ x. ap (λ (m : ℕ). inSet m x) waits ∙ shows .waits x;
     }

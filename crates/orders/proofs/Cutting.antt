@@ -9,11 +9,11 @@ use mathlib.Core.Path.{_≡_, refl, sym, _∙_, ap, subst}
 use lib.ListN.{length}
 use Rattle.orders.specs.Prelude.{Fate, Rule, Plan}
 use Rattle.plan.specs.Base.{among}
-use Rattle.plan.specs.Fates.{Fates, isDone, isGone, isSettled}
+use Rattle.plan.specs.Fates.{Fates, isOpen, isDone, isGone, isSettled, doneAs}
 use Rattle.orders.specs.Closed.{Events, Stands, Has, first, one, both, Closed}
 use Rattle.orders.specs.Runs.{doing, Bars, late, lost, second, other, Waits, waits, Owed, needed, called, May, Run}
 use Rattle.plan.proofs.Tests.{clash, either}
-use Rattle.orders.proofs.Doing.{gone-settled, doing-same, doing-other, ready-unsettled, ready-same, done-before, unsettled-before}
+use Rattle.orders.proofs.Doing.{gone-settled, doing-as, doing-same, doing-other, ready-unsettled, ready-same, done-before, unsettled-before}
 use Rattle.orders.proofs.Running.{among-head, among-tail, among-cases, among-none}
 
 -- the events of an order that lie in m
@@ -91,11 +91,12 @@ module _ (p : Plan) (l : ℕ → Bool) (m : Events) where
     }
 
   kept-both : (g h : Fates) (c : ℕ)
+      → m c ≡ true
       → ((j : ℕ) → Kept m j (g j) (h j))
       → (j : ℕ)
       → Kept m j (doing g c j) (doing h c j)
-  kept-both g h c k j = elim (ℕ-discrete j c) [
-    | yes q ↦ inl (doing-same h c j q ∙ sym (doing-same g c j q))
+  kept-both g h c t k j = elim (ℕ-discrete j c) [
+    | yes q ↦ inl (doing-same h c j q ∙ ap (λ (x : Fate). doneAs (isOpen x)) (kept-same m (k c) t) ∙ sym (doing-same g c j q))
     | no ne ↦ rw (doing-other g c j ne, doing-other h c j ne) (k j)
   ]
 
@@ -106,14 +107,14 @@ module _ (p : Plan) (l : ℕ → Bool) (m : Events) where
       → (j : ℕ)
       → Kept m j (doing g c j) (h j)
   kept-left g h c t u k j = elim (ℕ-discrete j c) [
-    | yes q ↦ inr (subst (λ (z : ℕ). m z ≡ false) (sym q) t, ap isDone (doing-same g c j q), subst (λ (z : ℕ). isSettled (h z) ≡ false) (sym q) (kept-unsettled m (k c) u))
+    | yes q ↦ inr (subst (λ (z : ℕ). m z ≡ false) (sym q) t, doing-as isDone refl g c j q, subst (λ (z : ℕ). isSettled (h z) ≡ false) (sym q) (kept-unsettled m (k c) u))
     | no ne ↦ rw (doing-other g c j ne) (k j)
   ]
 
   cut : (g h : Fates) → ((j : ℕ) → Kept m j (g j) (h j)) → Closed p l h m → (o : List ℕ) → Run p l g o → Run p l h (keep m o)
   cut g h k cl [] run = unfold keep in λ r st w. run r st (kept-owed g h k cl r st w)
   cut g h k cl (c ∷ o) run = elim (either (m c)) [
-    | inl t ↦ subst (Run p l h) (sym (keep-in m c o t)) (kept-may g h k cl c t (run .0), cut (doing g c) (doing h c) (kept-both g h c k) (closed-stays p l m h c t cl) o (run .1))
+    | inl t ↦ subst (Run p l h) (sym (keep-in m c o t)) (kept-may g h k cl c t (run .0), cut (doing g c) (doing h c) (kept-both g h c t k) (closed-stays p l m h c t cl) o (run .1))
     | inr t ↦ subst (Run p l h) (sym (keep-out m c o t)) (cut (doing g c) h (kept-left g h c t (ready-unsettled p g c (run .0 .at-hand)) k) cl o (run .1))
   ]
 

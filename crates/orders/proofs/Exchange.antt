@@ -5,7 +5,7 @@ use borrow.Author.Tests.{eq-eqb, ne-eqb}
 use mathlib.Core.Bool.{Bool, true, false, cond}
 use mathlib.Core.List.{List, [], _∷_}
 use mathlib.Core.Logic.{_≢_, inl, inr}
-use mathlib.Core.Path.{_≡_, sym, _∙_, ap, subst}
+use mathlib.Core.Path.{_≡_, refl, sym, _∙_, ap, subst}
 use lib.Dec.{eqb}
 use lib.ListN.{length}
 use Rattle.orders.specs.Prelude.{Rule, Order, Plan}
@@ -13,7 +13,7 @@ use Rattle.plan.specs.Base.{among}
 use Rattle.plan.specs.Fates.{Fates, isDone, isSettled}
 use Rattle.orders.specs.Closed.{Stands}
 use Rattle.orders.specs.Runs.{doing, Bars, late, lost, second, other, Waits, waits, May, Run}
-use Rattle.orders.proofs.Doing.{doing-same, doing-both, ready-unsettled, ready-stays, done-before, gone-before, gone-stays, unsettled-before}
+use Rattle.orders.proofs.Doing.{doing-as, doing-both, ready-unsettled, ready-stays, done-before, gone-before, gone-stays, unsettled-before}
 use Rattle.orders.proofs.Running.{among-head, among-tail, among-cases, among-none, no-turn}
 
 -- an order without x
@@ -43,7 +43,7 @@ module _ (p : Plan) (l : ℕ → Bool) (x : ℕ) where
     too-late st b = no-turn p l (doing f c) x st b o (run .1) turn
 
     done-c : {a : ℕ} → c ≡ a → isDone (doing f c a) ≡ true
-    done-c {a} q = ap isDone (doing-same f c a (sym q))
+    done-c {a} q = doing-as isDone refl f c a (sym q)
 
     moved-bars : (r : Rule) → Stands p l r → Bars (doing f x) c r → ⊥
     moved-bars r st (late {a = a} {b = b} q d) = elim (done-before f x b d) [

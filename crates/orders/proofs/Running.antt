@@ -17,7 +17,7 @@ use Rattle.plan.specs.Rules.{ready}
 use Rattle.orders.specs.Closed.{Events, Stands, Has, first, one, both, Closed}
 use Rattle.orders.specs.Runs.{doing, Bars, late, lost, second, other, waits, Owed, needed, called, Run}
 use Rattle.plan.proofs.Tests.{or-either, or-right-true, clash, either, count-same, count-zero}
-use Rattle.orders.proofs.Doing.{doing-same, ready-unsettled, done-stays, gone-stays, unsettled-stays, ready-before, ready-other}
+use Rattle.orders.proofs.Doing.{doing-as, ready-unsettled, done-stays, gone-stays, unsettled-stays, ready-before, ready-other}
 
 -- the events of an order, as a set
 abbrev pub inside : List ℕ → Events
@@ -51,7 +51,7 @@ done-after f (c ∷ o) j h = done-after (doing f c) o j (done-stays f c j h)
 member-after : (f : Fates) (o : List ℕ) (j : ℕ) → among j o ≡ true → isDone (after f o j) ≡ true
 member-after f [] j h = absurd (among-none j h)
 member-after f (c ∷ o) j h = elim (among-cases j c o h) [
-  | inl q ↦ done-after (doing f c) o j (ap isDone (doing-same f c j q))
+  | inl q ↦ done-after (doing f c) o j (doing-as isDone refl f c j q)
   | inr t ↦ member-after (doing f c) o j t
 ]
 

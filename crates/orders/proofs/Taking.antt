@@ -23,7 +23,7 @@ use Rattle.orders.specs.Stepwise.{follows, blocked, less, nothing, next,
 use Rattle.plan.proofs.Tests.{and-left, and-right, or-left, or-right, or-both, or-right-true, or-either, and-not, clash, either, any-false, any-none, some-none}
 use Rattle.orders.proofs.Lowest.{lowest-some, lowest-any}
 use Rattle.orders.proofs.Grounds.{refuted, each-fails, all-fail, bars-grounds, grounds-bar}
-use Rattle.orders.proofs.Doing.{doing-same, ready-unsettled, ready-stays, unsettled-other}
+use Rattle.orders.proofs.Doing.{doing-as, ready-unsettled, ready-stays, unsettled-other}
 use Rattle.orders.proofs.Running.{among-head, among-tail, among-cases, among-none, run-once, no-turn}
 use Rattle.orders.proofs.Closure.{wants-unsettled, wants-more}
 use Rattle.orders.proofs.Cutting.{closed-stays}
@@ -238,7 +238,7 @@ module _ (p : Plan) (l : ℕ → Bool) where
             run .0 .unwaiting (Order a b) st (waits q d (subst (λ (v : ℕ). isSettled (f v) ≡ false) (q ∙ sym z) (ready-unsettled p f y (run .0 .at-hand))))
         | no ne ↦ elim (among-cases a y o (whole a (and-left (m a) (not (eqb a b) || delayable p b) t))) [
           | inl v ↦ ne (v ∙ q)
-          | inr v ↦ no-turn p l (doing f y) a st (late refl (ap isDone (doing-same f y b (sym q)))) o (run .1) v
+          | inr v ↦ no-turn p l (doing f y) a st (late refl (doing-as isDone refl f y b (sym q))) o (run .1) v
         ]
       ]
   head-follows f m y o run whole (Need a b) st h = clash h refl

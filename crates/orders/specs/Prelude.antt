@@ -8,7 +8,7 @@ pub use mathlib.Core.Path.{_≡_}
 pub use lib.Dec.{eqb, ltb}
 pub use lib.ListN.{length}
 pub use Rattle.plan.specs.declared.fate.Fate.{Fate}
-pub use Rattle.plan.specs.declared.fate.Fate.the-variants.{Open, Held, Done, Refused, Lapsed}
+pub use Rattle.plan.specs.declared.fate.Fate.the-variants.{Open, Held, Done, Refused, Lapsed, Forced}
 pub use Rattle.plan.specs.declared.rule.Rule.{Rule}
 pub use Rattle.plan.specs.declared.rule.Rule.the-variants.{Order, Need, Conditional}
 pub use Rattle.plan.specs.declared.plan.Plan.{Plan}

@@ -1,13 +1,13 @@
 -- Orders over a plan, the rules that stand and the fates: what stops an event, what is owed, and runs.
-use Rattle.orders.specs.Prelude.{ℕ, _<_, Bool, true, false, cond, List, [], _∷_, _≡_, eqb, Done, Rule, Order, Need, Conditional, Plan}
-use Rattle.plan.specs.Fates.{Fates, isDone, isGone, isSettled}
+use Rattle.orders.specs.Prelude.{ℕ, _<_, Bool, true, false, cond, List, [], _∷_, _≡_, eqb, Rule, Order, Need, Conditional, Plan}
+use Rattle.plan.specs.Fates.{Fates, isOpen, isDone, isGone, isSettled, doneAs}
 use Rattle.plan.specs.Plans.{eventCount, delayable}
 use Rattle.plan.specs.Rules.{ready}
 use Rattle.orders.specs.Closed.{Stands}
 
--- the fates with c done
+-- the fates with c done, by force if it is open
 abbrev pub doing : Fates → ℕ → Fates
-doing f c x = cond (eqb x c) Done (f x)
+doing f c x = cond (eqb x c) (doneAs (isOpen (f c))) (f x)
 
 -- the grounds on which a rule is against doing x for good
 pub data Bars (f : Fates) (x : ℕ) : Rule → Type 0 where

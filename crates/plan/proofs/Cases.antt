@@ -7,11 +7,11 @@ use mathlib.Core.Option.{none, some}
 use mathlib.Core.Path.{_≡_, refl}
 use lib.Dec.{eqb, ltb}
 use lib.ListN.{getD}
-use Rattle.plan.specs.Prelude.{Fate, Open, Held, Done, Refused, Lapsed, Entry}
+use Rattle.plan.specs.Prelude.{Fate, Open, Held, Done, Refused, Lapsed, Forced, Entry}
 use Rattle.plan.specs.Prelude.{Rule, Order, Need, Conditional, Plan}
 use Rattle.plan.specs.Base.{anyBelow, allBelow, countBelow, thoseBelow, among, when, firstOf, tabulate, lowest}
 use Rattle.plan.specs.Base.{readAt, storeAt}
-use Rattle.plan.specs.Fates.{Fates, isOpen, isHeld, isDone, isGone, isSettled, fateNumber}
+use Rattle.plan.specs.Fates.{Fates, isOpen, isHeld, isDone, isGone, isSettled, doneAs, fateNumber}
 use Rattle.plan.specs.Plans.{emptyPlan, hasEvent}
 use Rattle.plan.specs.Rules.{named, enforceable, soundEvent, soundRule, bars, makesWait, forbids, owes, ready}
 use Rattle.plan.specs.Histories.{fatesIn, anyDone, doneIn, doneInTurn, holds, declaredOnly, sameFates, listedAs}
@@ -22,7 +22,7 @@ abbrev below8 : List ℕ
 below8 = 0 ∷ 1 ∷ 2 ∷ 3 ∷ 4 ∷ 5 ∷ 6 ∷ 7 ∷ []
 
 abbrev fates : List Fate
-fates = Open ∷ Held ∷ Done ∷ Refused ∷ Lapsed ∷ []
+fates = Open ∷ Held ∷ Done ∷ Refused ∷ Lapsed ∷ Forced ∷ []
 
 -- those of a list that pass a test
 abbrev those : {A : Type 0} → (A → Bool) → List A → List A
@@ -41,11 +41,12 @@ pub basic :
     × (tabulate 3 4 (λ i. i) ≡ 4 ∷ 5 ∷ 6 ∷ [])
     × (map (λ i. readAt 2 below8 (suc i) 9) (0 ∷ 1 ∷ []) ≡ 1 ∷ 9 ∷ [])
     × (map (λ i. storeAt {A = ℕ} 2 (0 ∷ 0 ∷ 0 ∷ []) i 9) (1 ∷ 2 ∷ []) ≡ (0 ∷ 9 ∷ 0 ∷ []) ∷ (0 ∷ 0 ∷ 0 ∷ []) ∷ [])
-    × (those isOpen fates ++ those isHeld fates ++ those isDone fates ≡ Open ∷ Held ∷ Done ∷ [])
-    × (those isGone fates ++ those isSettled fates ≡ Refused ∷ Lapsed ∷ Done ∷ Refused ∷ Lapsed ∷ [])
-    × (map fateNumber fates ≡ 0 ∷ 1 ∷ 2 ∷ 3 ∷ 4 ∷ [])
+    × (those isOpen fates ++ those isHeld fates ++ those isDone fates ≡ Open ∷ Held ∷ Done ∷ Forced ∷ [])
+    × (those isGone fates ++ those isSettled fates ≡ Refused ∷ Lapsed ∷ Done ∷ Refused ∷ Lapsed ∷ Forced ∷ [])
+    × (map doneAs (true ∷ false ∷ []) ≡ Forced ∷ Done ∷ [])
+    × (map fateNumber fates ≡ 0 ∷ 1 ∷ 2 ∷ 3 ∷ 4 ∷ 5 ∷ [])
 unfolding anyBelow allBelow countBelow thoseBelow among firstOf tabulate lowest
-basic = (refl, refl, refl, refl, refl, refl, refl, refl, refl, refl, refl, refl, refl)
+basic = (refl, refl, refl, refl, refl, refl, refl, refl, refl, refl, refl, refl, refl, refl)
 
 -- a plan in which event e has the step e and the attributes e, for each e below 8
 abbrev eight : Plan
@@ -63,14 +64,14 @@ having l e = getD l e Open
 -- an order bars its first event once the second is done, a need once the second is refused or lapsed; a conditional
 -- bars one of its first two events once the other is done and the third refused or lapsed
 pub barring :
-    (those (λ x. bars eight (having (Open ∷ x ∷ [])) (Order 0 1) 0) fates ≡ Done ∷ [])
+    (those (λ x. bars eight (having (Open ∷ x ∷ [])) (Order 0 1) 0) fates ≡ Done ∷ Forced ∷ [])
     × (those (bars eight (λ e. Done) (Order 2 1)) below8 ≡ 2 ∷ [])
     × (those (λ x. bars eight (having (Open ∷ x ∷ [])) (Need 0 1) 0) fates ≡ Refused ∷ Lapsed ∷ [])
     × (those (bars eight (λ e. Lapsed) (Need 2 1)) below8 ≡ 2 ∷ [])
     × (those (λ x. bars eight (having (Open ∷ Done ∷ x ∷ [])) (Conditional 0 1 2) 0) fates ≡ Refused ∷ Lapsed ∷ [])
     × (those (λ x. bars eight (having (Done ∷ Held ∷ x ∷ [])) (Conditional 0 1 2) 1) fates ≡ Refused ∷ Lapsed ∷ [])
-    × (those (λ x. bars eight (having (Open ∷ x ∷ Lapsed ∷ [])) (Conditional 0 1 2) 0) fates ≡ Done ∷ [])
-    × (those (λ x. bars eight (having (x ∷ Open ∷ Refused ∷ [])) (Conditional 0 1 2) 1) fates ≡ Done ∷ [])
+    × (those (λ x. bars eight (having (Open ∷ x ∷ Lapsed ∷ [])) (Conditional 0 1 2) 0) fates ≡ Done ∷ Forced ∷ [])
+    × (those (λ x. bars eight (having (x ∷ Open ∷ Refused ∷ [])) (Conditional 0 1 2) 1) fates ≡ Done ∷ Forced ∷ [])
     × (those (bars eight (having (Done ∷ Done ∷ Refused ∷ [])) (Conditional 0 1 2)) below8 ≡ 0 ∷ 1 ∷ [])
 unfolding bars
 barring = (refl, refl, refl, refl, refl, refl, refl, refl, refl)
@@ -91,10 +92,10 @@ waiting = (refl, refl, refl, refl, refl, refl, refl)
 pub owing :
     (those (λ x. owes eight (having (Done ∷ x ∷ [])) (Order 0 1)) fates ≡ [])
     × (those (λ x. owes eight (having (Done ∷ x ∷ [])) (Need 0 1)) fates ≡ Open ∷ Held ∷ [])
-    × (those (λ x. owes eight (having (x ∷ [])) (Need 0 1)) fates ≡ Done ∷ [])
+    × (those (λ x. owes eight (having (x ∷ [])) (Need 0 1)) fates ≡ Done ∷ Forced ∷ [])
     × (those (λ x. owes eight (having (Done ∷ Done ∷ x ∷ [])) (Conditional 0 1 2)) fates ≡ Open ∷ Held ∷ [])
-    × (those (λ x. owes eight (having (x ∷ Done ∷ [])) (Conditional 0 1 2)) fates ≡ Done ∷ [])
-    × (those (λ x. owes eight (having (Done ∷ x ∷ [])) (Conditional 0 1 2)) fates ≡ Done ∷ [])
+    × (those (λ x. owes eight (having (x ∷ Done ∷ [])) (Conditional 0 1 2)) fates ≡ Done ∷ Forced ∷ [])
+    × (those (λ x. owes eight (having (Done ∷ x ∷ [])) (Conditional 0 1 2)) fates ≡ Done ∷ Forced ∷ [])
 unfolding owes
 owing = (refl, refl, refl, refl, refl, refl)
 
@@ -147,6 +148,9 @@ line e x = record { event = e; fate = x }
 abbrev done : ℕ → Entry
 done e = line e Done
 
+abbrev forced : ℕ → Entry
+forced e = line e Forced
+
 -- a row: a history, a rule, and whether the rule holds
 abbrev Holding : Type 0
 Holding = List Entry × Rule × Bool
@@ -161,6 +165,8 @@ histories =
     ∷ (done 2 ∷ done 0 ∷ [], Order 0 1, true)
     ∷ (done 1 ∷ line 0 Refused ∷ [], Order 0 1, true)
     ∷ (line 1 Lapsed ∷ done 0 ∷ [], Order 0 1, true)
+    ∷ (forced 1 ∷ done 0 ∷ [], Order 0 1, false)
+    ∷ (forced 0 ∷ forced 1 ∷ [], Order 0 1, true)
     -- a need: unless the first is done and the second is not
     ∷ (done 0 ∷ [], Need 0 1, false)
     ∷ (done 1 ∷ done 0 ∷ [], Need 0 1, true)
@@ -169,12 +175,16 @@ histories =
     ∷ (line 0 Refused ∷ line 1 Lapsed ∷ [], Need 0 1, true)
     ∷ ([], Need 0 1, true)
     ∷ (line 0 Refused ∷ done 0 ∷ [], Need 0 1, false)
+    ∷ (done 0 ∷ forced 1 ∷ [], Need 0 1, true)
+    ∷ (forced 0 ∷ line 1 Refused ∷ [], Need 0 1, false)
     -- a conditional: unless the first two are done and the third is not
     ∷ (done 1 ∷ done 0 ∷ [], Conditional 0 1 2, false)
     ∷ (done 0 ∷ done 1 ∷ line 2 Lapsed ∷ [], Conditional 0 1 2, false)
     ∷ (done 2 ∷ done 1 ∷ done 0 ∷ [], Conditional 0 1 2, true)
     ∷ (done 0 ∷ line 1 Refused ∷ [], Conditional 0 1 2, true)
     ∷ (line 0 Refused ∷ done 1 ∷ [], Conditional 0 1 2, true)
+    ∷ (done 1 ∷ done 0 ∷ forced 2 ∷ [], Conditional 0 1 2, true)
+    ∷ (done 1 ∷ forced 0 ∷ line 2 Lapsed ∷ [], Conditional 0 1 2, false)
     ∷ []
 
 pub holding : map (λ (c : Holding). holds (c .0) (c .1)) histories ≡ map (λ (c : Holding). c .2) histories
@@ -185,7 +195,8 @@ holding = refl
 pub listing :
     (those (declaredOnly (done 1 ∷ done 3 ∷ done 0 ∷ [])) below8 ≡ 4 ∷ 5 ∷ 6 ∷ 7 ∷ [])
     × (those (listedAs (done 0 ∷ line 1 Refused ∷ []) 1) fates ≡ Refused ∷ [])
+    × (those (listedAs (done 0 ∷ []) 0) fates ++ those (listedAs (forced 0 ∷ []) 0) fates ≡ Done ∷ Forced ∷ [])
     × (those (listedAs (done 0 ∷ []) 1) fates ≡ Open ∷ Held ∷ [])
     × (those (listedAs (done 1 ∷ done 1 ∷ []) 1) fates ≡ [])
 unfolding declaredOnly fatesIn sameFates listedAs
-listing = (refl, refl, refl, refl)
+listing = (refl, refl, refl, refl, refl)

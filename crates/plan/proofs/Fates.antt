@@ -1,12 +1,12 @@
 -- A fate as its test says it.
 use Prim.Native.Nat.{ℕ}
 use borrow.Author.Tests.{eqb-true}
-use mathlib.Core.Bool.{true}
+use mathlib.Core.Bool.{Bool, true, false}
 use mathlib.Core.List.{[], _∷_}
 use mathlib.Core.Path.{_≡_, refl, sym, _∙_, ap}
 use lib.ListN.{getD}
-use Rattle.plan.specs.Prelude.{Fate, Open, Held, Done, Refused, Lapsed}
-use Rattle.plan.specs.Fates.{isOpen, isHeld, fateNumber, sameFate}
+use Rattle.plan.specs.Prelude.{Fate, Open, Held, Done, Refused, Lapsed, Forced}
+use Rattle.plan.specs.Fates.{isOpen, isHeld, doneAs, fateNumber, sameFate}
 use Rattle.plan.proofs.Tests.{clash}
 
 pub held-is : (x : Fate) → isHeld x ≡ true → x ≡ Held
@@ -15,6 +15,7 @@ held-is Held h = refl
 held-is Done h = absurd (clash h refl)
 held-is Refused h = absurd (clash h refl)
 held-is Lapsed h = absurd (clash h refl)
+held-is Forced h = absurd (clash h refl)
 
 pub open-is : (x : Fate) → isOpen x ≡ true → x ≡ Open
 open-is Open h = refl
@@ -22,10 +23,16 @@ open-is Held h = absurd (clash h refl)
 open-is Done h = absurd (clash h refl)
 open-is Refused h = absurd (clash h refl)
 open-is Lapsed h = absurd (clash h refl)
+open-is Forced h = absurd (clash h refl)
+
+-- what is the same of done and of forced is so of whatever an order gives
+pub as-done : {A : Type 0} (t : Fate → A) → t Forced ≡ t Done → (opened : Bool) → t (doneAs opened) ≡ t Done
+as-done t h true = h
+as-done t h false = refl
 
 -- fates that test the same are the same
 abbrev fateAt : ℕ → Fate
-fateAt n = getD (Open ∷ Held ∷ Done ∷ Refused ∷ Lapsed ∷ []) n Open
+fateAt n = getD (Open ∷ Held ∷ Done ∷ Refused ∷ Lapsed ∷ Forced ∷ []) n Open
 
 fate-number : (x : Fate) → fateAt (fateNumber x) ≡ x
 fate-number Open = refl
@@ -33,6 +40,7 @@ fate-number Held = refl
 fate-number Done = refl
 fate-number Refused = refl
 fate-number Lapsed = refl
+fate-number Forced = refl
 
 pub fate-same : (x y : Fate) → sameFate x y ≡ true → x ≡ y
 fate-same x y h = sym (fate-number x) ∙ ap fateAt (eqb-true (fateNumber x) (fateNumber y) h) ∙ fate-number y

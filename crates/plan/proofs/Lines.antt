@@ -4,7 +4,7 @@ use mathlib.Core.Bool.{Bool, true, false, _&&_, _||_, and-false, and-assoc, or-f
 use mathlib.Core.List.{List, [], _∷_, _++_, append-assoc, append-nil}
 use mathlib.Core.Path.{_≡_, refl, sym, _∙_, ap, ap₂}
 use lib.Dec.{eqb, ltb}
-use Rattle.plan.specs.Prelude.{Fate, Open, Held, Done, Refused, Lapsed, Entry}
+use Rattle.plan.specs.Prelude.{Fate, Open, Held, Done, Refused, Lapsed, Forced, Entry}
 use Rattle.plan.specs.Fates.{isDone, isSettled, sameFate}
 use Rattle.plan.specs.Histories.{fateIf, fatesIn, anyDone, doneIn, doneInTurn, declaredOnly, sameFates}
 use Rattle.plan.proofs.Tests.{clash, and-left, and-right}
@@ -86,3 +86,4 @@ done-settled-if Held = refl
 done-settled-if Done = refl
 done-settled-if Refused = refl
 done-settled-if Lapsed = refl
+done-settled-if Forced = refl

@@ -1,26 +1,32 @@
 -- Fates, and the array that holds one for each event.
-use Rattle.plan.specs.Prelude.{ℕ, Bool, true, false, _||_, List, eqb, Fate, Open, Held, Done, Refused, Lapsed, Standing}
+use Rattle.plan.specs.Prelude.{ℕ, Bool, true, false, _||_, List, eqb, Fate, Open, Held, Done, Refused, Lapsed, Forced, Standing}
 use Rattle.plan.specs.Base.{readAt}
 
 -- which fate it is (5.1)
 abbrev pub isOpen : Fate → Bool
-isOpen x = elim x [ Open ↦ true | Held ↦ false | Done ↦ false | Refused ↦ false | Lapsed ↦ false ]
+isOpen x = elim x [ Open ↦ true | Held ↦ false | Done ↦ false | Refused ↦ false | Lapsed ↦ false | Forced ↦ false ]
 
 abbrev pub isHeld : Fate → Bool
-isHeld x = elim x [ Open ↦ false | Held ↦ true | Done ↦ false | Refused ↦ false | Lapsed ↦ false ]
+isHeld x = elim x [ Open ↦ false | Held ↦ true | Done ↦ false | Refused ↦ false | Lapsed ↦ false | Forced ↦ false ]
 
+-- done, or forced, which counts as done (5.2, 5.8)
 abbrev pub isDone : Fate → Bool
-isDone x = elim x [ Open ↦ false | Held ↦ false | Done ↦ true | Refused ↦ false | Lapsed ↦ false ]
+isDone x = elim x [ Open ↦ false | Held ↦ false | Done ↦ true | Refused ↦ false | Lapsed ↦ false | Forced ↦ true ]
 
 -- refused or lapsed (5.2)
 abbrev pub isGone : Fate → Bool
-isGone x = elim x [ Open ↦ false | Held ↦ false | Done ↦ false | Refused ↦ true | Lapsed ↦ true ]
+isGone x = elim x [ Open ↦ false | Held ↦ false | Done ↦ false | Refused ↦ true | Lapsed ↦ true | Forced ↦ false ]
 
 abbrev pub isSettled : Fate → Bool
 isSettled x = isDone x || isGone x
 
+-- how an order settles an event: by force if it is open when its turn comes (5.8, 7.1)
+abbrev pub doneAs : Bool → Fate
+doneAs true = Forced
+doneAs false = Done
+
 abbrev pub fateNumber : Fate → ℕ
-fateNumber x = elim x [ Open ↦ 0 | Held ↦ 1 | Done ↦ 2 | Refused ↦ 3 | Lapsed ↦ 4 ]
+fateNumber x = elim x [ Open ↦ 0 | Held ↦ 1 | Done ↦ 2 | Refused ↦ 3 | Lapsed ↦ 4 | Forced ↦ 5 ]
 
 abbrev pub sameFate : Fate → Fate → Bool
 sameFate x y = eqb (fateNumber x) (fateNumber y)

@@ -1,14 +1,16 @@
 // Fates, and the place that holds one for an event.
 ghost use mathlib.Core.Path.{_≡_};
-ghost use Rattle.plan.specs.Fates.{isOpen, isHeld, isDone, isGone, isSettled, fateNumber, sameFate};
+ghost use Rattle.plan.specs.Fates.{isOpen, isHeld, isDone, isGone, isSettled, doneAs, fateNumber, sameFate};
 
-// Where an event is: still to come, waiting, or settled in one of three ways (5.1, 5.2).
+// Where an event is: still to come, waiting, or settled in one of four ways (5.1, 5.2). Forced is done by force, while it
+// was open.
 pub enum Fate {
     Open,
     Held,
     Done,
     Refused,
     Lapsed,
+    Forced,
 }
 
 // An event's fate in its place.
@@ -25,6 +27,7 @@ pub fn is_open(x: Fate) -> bool
         Fate::Done => false,
         Fate::Refused => false,
         Fate::Lapsed => false,
+        Fate::Forced => false,
     }
 }
 
@@ -37,9 +40,11 @@ pub fn is_held(x: Fate) -> bool
         Fate::Done => false,
         Fate::Refused => false,
         Fate::Lapsed => false,
+        Fate::Forced => false,
     }
 }
 
+// Done, or forced, which counts as done.
 pub fn is_done(x: Fate) -> bool
     ensures { λ r. ⌜ r ≡ isDone x ⌝ }
 {
@@ -49,6 +54,7 @@ pub fn is_done(x: Fate) -> bool
         Fate::Done => true,
         Fate::Refused => false,
         Fate::Lapsed => false,
+        Fate::Forced => true,
     }
 }
 
@@ -62,6 +68,7 @@ pub fn is_gone(x: Fate) -> bool
         Fate::Done => false,
         Fate::Refused => true,
         Fate::Lapsed => true,
+        Fate::Forced => false,
     }
 }
 
@@ -74,7 +81,18 @@ pub fn is_settled(x: Fate) -> bool
         Fate::Done => true,
         Fate::Refused => true,
         Fate::Lapsed => true,
+        Fate::Forced => true,
     }
+}
+
+// How an order settles an event: by force if it is open when its turn comes.
+pub fn done_as(opened: bool) -> Fate
+    ensures { λ r. ⌜ r ≡ doneAs opened ⌝ }
+{
+    if opened {
+        return Fate::Forced;
+    }
+    Fate::Done
 }
 
 // The number of a fate, as images have it.
@@ -87,6 +105,7 @@ pub fn fate_number(x: Fate) -> u8
         Fate::Done => 2,
         Fate::Refused => 3,
         Fate::Lapsed => 4,
+        Fate::Forced => 5,
     }
 }
 

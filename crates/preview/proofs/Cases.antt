@@ -48,8 +48,11 @@ cases =
     -- case A: event 0 would wait; once it does, event 1 would settle both
     (firstOn sheetA, 0, 0, 0 ∷ 0 ∷ 0 ∷ 0 ∷ [])
     ∷ (after scheduler (firstOn sheetA) (Submit 0 ∷ []), 1, 0, 2 ∷ 0 ∷ 0 ∷ 0 ∷ [])
-    -- case D: an event that would be forced counts as done; case E: one done alone
-    ∷ (firstOn sheetD, 0, 0, 2 ∷ 0 ∷ 0 ∷ 0 ∷ [])
+    -- case D: event 0 would be done and event 1 forced, which is not counted as done; case E: one done alone
+    ∷ (firstOn sheetD, 0, 0, 1 ∷ 0 ∷ 0 ∷ 1 ∷ [])
+    -- event 1 handed in first is not forced by its own hand-in, though it is forcible; once forced it would settle nothing
+    ∷ (firstOn sheetD, 1, 0, 1 ∷ 0 ∷ 0 ∷ 0 ∷ [])
+    ∷ (after scheduler (firstOn sheetD) (Submit 0 ∷ []), 1, 0, 0 ∷ 0 ∷ 0 ∷ 0 ∷ [])
     ∷ (after scheduler (firstOn sheetD) (Close 1 ∷ []), 0, 0, 1 ∷ 0 ∷ 0 ∷ 0 ∷ [])
     -- case G: an event that would be refused
     ∷ (after scheduler (firstOn sheetG) (Submit 1 ∷ []), 0, 0, 0 ∷ 1 ∷ 0 ∷ 0 ∷ [])

@@ -1,4 +1,4 @@
--- What a hand-in adds to the history: lines that say done or refused, and none where the event isn't open.
+-- What a hand-in adds to the history: lines that say done, forced or refused, and none where the event isn't open.
 use Prim.Native.Nat.{ℕ, _+_, _≤_}
 use native.Mathlib.Omega.{arith}
 use native.Mathlib.Decide.{decLt}
@@ -8,12 +8,12 @@ use mathlib.Core.Option.{Option, none, some}
 use mathlib.Core.Path.{_≡_, refl, sym, _∙_, ap, subst}
 use lib.ListN.{length, drop, length-take, length-append, drop-of-length-le}
 use lib.Seq.{length-take-le, drop-at}
-use Rattle.preview.specs.Types.{Fate, Open, Held, Done, Refused, Lapsed, Entry, Call, Submit, Close, Finish, CallFault, State, Reply}
+use Rattle.preview.specs.Types.{Fate, Open, Held, Done, Refused, Lapsed, Forced, Entry, Call, Submit, Close, Finish, CallFault, State, Reply}
 use Rattle.plan.specs.Base.{oneIf}
-use Rattle.plan.specs.Fates.{isOpen, sameFate}
+use Rattle.plan.specs.Fates.{isOpen, doneAs, sameFate}
 use Rattle.plan.specs.Plans.{ruleCount}
 use Rattle.scheduler.specs.State.{fateOf, lineCount, lines, hold, settleAs, Sized}
-use Rattle.scheduler.specs.Orders.{doOne, doAll}
+use Rattle.scheduler.specs.Orders.{fateAtTurn, doOne, doAll}
 use Rattle.scheduler.specs.Calls.{recordBroken, doAlone}
 use Rattle.scheduler.specs.Coherent.{coherent}
 use Rattle.scheduler.specs.Answers.{callFault, accept, call}
@@ -36,34 +36,35 @@ count-append x [] b = omega arith
 count-append x (l ∷ a) b = omega (arith, count-append x a b)
 
 -- a line is counted once at most
-once : (x : Fate) → oneIf (sameFate x Done) + oneIf (sameFate x Refused) + oneIf (sameFate x Lapsed) ≤ 1
+once : (x : Fate) → oneIf (sameFate x Done) + oneIf (sameFate x Refused) + oneIf (sameFate x Lapsed) + oneIf (sameFate x Forced) ≤ 1
 once Open = omega arith
 once Held = omega arith
 once Done = omega arith
 once Refused = omega arith
 once Lapsed = omega arith
+once Forced = omega arith
 
-at-most : (ls : List Entry) → countOf Done ls + countOf Refused ls + countOf Lapsed ls ≤ length ls
+at-most : (ls : List Entry) → countOf Done ls + countOf Refused ls + countOf Lapsed ls + countOf Forced ls ≤ length ls
 unfolding countOf
 at-most [] = omega arith
 at-most (l ∷ ls) = omega (arith, once (l .fate), at-most ls)
 
--- every line says done or refused
-abbrev pub DoneOrRefused : List Entry → Type 0
-DoneOrRefused ls = countOf Done ls + countOf Refused ls ≡ length ls
+-- every line says done, forced or refused
+abbrev pub NoneLapsed : List Entry → Type 0
+NoneLapsed ls = countOf Done ls + countOf Refused ls + countOf Forced ls ≡ length ls
 
-said-append : (a b : List Entry) → DoneOrRefused a → DoneOrRefused b → DoneOrRefused (a ++ b)
-said-append a b p q = omega (arith, count-append Done a b, count-append Refused a b, length-append a b, p, q)
+said-append : (a b : List Entry) → NoneLapsed a → NoneLapsed b → NoneLapsed (a ++ b)
+said-append a b p q = omega (arith, count-append Done a b, count-append Refused a b, count-append Forced a b, length-append a b, p, q)
 
-said-none : DoneOrRefused []
+said-none : NoneLapsed []
 unfolding countOf
 said-none = refl
 
--- t's history is that of s and lines that say done or refused
+-- t's history is that of s and lines that say done, forced or refused
 pub record Grown (s t : State) : Type 0 where
   pub new : List Entry
   pub lines-new : lines t ≡ lines s ++ new
-  pub said : DoneOrRefused new
+  pub said : NoneLapsed new
 
 grown-same : (s t : State) → lines t ≡ lines s → Grown s t
 grown-same s t q = record { new = []; lines-new = q ∙ sym (append-nil (lines s)); said = said-none }
@@ -76,18 +77,27 @@ grown-then s t u p q = record {
 }
 
 -- an event is settled: a line more, or none where all places are taken
-module _ (x : Fate) (one : (e : ℕ) → DoneOrRefused (record { event = e; fate = x } ∷ [])) where
+module _ (x : Fate) (one : (e : ℕ) → NoneLapsed (record { event = e; fate = x } ∷ [])) where
   grown-settle : (s : State) (e : ℕ) → Sized s → Grown s (settleAs x s e)
   grown-settle s e z = elim (decLt (lineCount s) 16) [
     | yes lt ↦ record { new = record { event = e; fate = x } ∷ []; lines-new = lines-settle x s e z lt; said = one e }
     | no ge ↦ grown-same s (settleAs x s e) (lines-full x s e (omega arith))
   ]
 
-one-done : (e : ℕ) → DoneOrRefused (record { event = e; fate = Done } ∷ [])
+one-done : (e : ℕ) → NoneLapsed (record { event = e; fate = Done } ∷ [])
 unfolding countOf
 one-done e = refl
 
-one-refused : (e : ℕ) → DoneOrRefused (record { event = e; fate = Refused } ∷ [])
+one-forced : (e : ℕ) → NoneLapsed (record { event = e; fate = Forced } ∷ [])
+unfolding countOf
+one-forced e = refl
+
+-- one event of an order
+one-turn : (opened : Bool) (e : ℕ) → NoneLapsed (record { event = e; fate = doneAs opened } ∷ [])
+one-turn true = one-forced
+one-turn false = one-done
+
+one-refused : (e : ℕ) → NoneLapsed (record { event = e; fate = Refused } ∷ [])
 unfolding countOf
 one-refused e = refl
 
@@ -95,7 +105,7 @@ grown-order : (s : State) (o : List ℕ) → Sized s → Grown s (doAll s o)
 unfolding doAll
 grown-order s [] z = grown-same s s refl
 grown-order s (c ∷ o) z =
-    grown-then s (doOne s c) (doAll (doOne s c) o) (grown-settle Done one-done s c z) (grown-order (doOne s c) o (sized-one s c z))
+    grown-then s (doOne s c) (doAll (doOne s c) o) (grown-settle (fateAtTurn s c) (one-turn (isOpen (fateOf s c))) s c z) (grown-order (doOne s c) o (sized-one s c z))
 
 grown-alone : (s : State) (e : ℕ) → Sized s → Grown s (doAlone s e)
 unfolding doAlone
@@ -170,7 +180,7 @@ module _ (s : State) (e : ℕ) (z : Sized s) where
   foretold-taken h =
       let c = accepted-coherent s (Submit e) h in
       let added = new-added c in
-      let all : DoneOrRefused (addedBy s (Submit e)) = subst DoneOrRefused (sym added) (grows .said) in
+      let all : NoneLapsed (addedBy s (Submit e)) = subst NoneLapsed (sym added) (grows .said) in
       let most = at-most (addedBy s (Submit e)) in
       let history : lines t ≡ lines s ++ addedBy s (Submit e) = grows .lines-new ∙ ap (λ (l : List Entry). lines s ++ l) (sym added) in
       let before = lines-long s z c in

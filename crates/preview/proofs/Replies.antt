@@ -7,7 +7,7 @@ use mathlib.Core.Logic.{_⊎_, inl, inr}
 use mathlib.Core.Path.{_≡_, refl, sym, _∙_, ap}
 use denote.Enum.Declared.{tagOf}
 use Rattle.plan.proofs.answer.Answer.{the-type}
-use Rattle.preview.specs.Types.{Done, Refused, Lapsed, Entry, Submit, CallFault, Answer, Is, Made, TurnedDown, State, Counts, PreviewReply}
+use Rattle.preview.specs.Types.{Done, Refused, Lapsed, Forced, Entry, Submit, CallFault, Answer, Is, Made, TurnedDown, State, Counts, PreviewReply}
 use Rattle.plan.specs.Faults.{callFaultNumber}
 use Rattle.plan.proofs.Tests.{clash}
 use Rattle.scheduler.specs.Answers.{call}
@@ -15,13 +15,14 @@ use Rattle.image.proofs.Numbers.{answer-byte}
 use Rattle.preview.specs.Preview.{addedBy, countOf, countsIn, previewOf}
 use Rattle.preview.specs.Kept.{previewNumber, countBytes, writtenBy}
 
--- three counts are the counts
-pub counts-are : (ls : List Entry) {d r l : ℕ}
+-- four counts are the counts
+pub counts-are : (ls : List Entry) {d r l f : ℕ}
     → d ≡ countOf Done ls
     → r ≡ countOf Refused ls
     → l ≡ countOf Lapsed ls
-    → record { done = d; refused = r; lapsed = l } ≡ countsIn ls
-counts-are ls hd hr hl = rw (hd, hr, hl)
+    → f ≡ countOf Forced ls
+    → record { done = d; refused = r; lapsed = l; forced = f } ≡ countsIn ls
+counts-are ls hd hr hl hf = rw (hd, hr, hl, hf)
 
 -- a refusal's number is a byte
 pub fault-byte : {n : ℕ} (f : CallFault) → n ≡ callFaultNumber f → n < 256

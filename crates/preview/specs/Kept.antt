@@ -15,9 +15,9 @@ use Rattle.preview.specs.Preview.{previewOf, Foretold}
 abbrev pub previewNumber : PreviewReply → ℕ
 previewNumber x = elim x [ PreviewReply.Counted c ↦ 0 | PreviewReply.TurnedDown f ↦ callFaultNumber f ]
 
--- the four bytes of counts: done, refused, lapsed, and a fourth that is 0 (5.24)
+-- the four bytes of counts: done, refused, lapsed, forced (5.24)
 abbrev pub countBytes : Counts → List ℕ
-countBytes c = c .done ∷ c .refused ∷ c .lapsed ∷ 0 ∷ []
+countBytes c = c .done ∷ c .refused ∷ c .lapsed ∷ c .forced ∷ []
 
 -- what the four bytes are after a preview; under a refusal they stay (5.24)
 abbrev pub writtenBy : PreviewReply → List ℕ → List ℕ

@@ -4,7 +4,7 @@ use mathlib.Core.Bool.{false}
 use mathlib.Core.List.{List, [], _∷_, _++_}
 use mathlib.Core.Path.{_≡_}
 use lib.ListN.{drop}
-use Rattle.preview.specs.Types.{Fate, Done, Refused, Lapsed, Entry, Call, Submit, Is, Made, TurnedDown, State, Counts, PreviewReply}
+use Rattle.preview.specs.Types.{Fate, Done, Refused, Lapsed, Forced, Entry, Call, Submit, Is, Made, TurnedDown, State, Counts, PreviewReply}
 use Rattle.plan.specs.Base.{oneIf}
 use Rattle.plan.specs.Fates.{isOpen, sameFate}
 use Rattle.scheduler.specs.State.{fateOf, lineCount, lines}
@@ -21,11 +21,16 @@ countOf x (l ∷ ls) = oneIf (sameFate (l .fate) x) + countOf x ls
 
 -- lines counted by what they say (9.15)
 abbrev pub countsIn : List Entry → Counts
-countsIn ls = record { done = countOf Done ls; refused = countOf Refused ls; lapsed = countOf Lapsed ls }
+countsIn ls = record {
+  done = countOf Done ls;
+  refused = countOf Refused ls;
+  lapsed = countOf Lapsed ls;
+  forced = countOf Forced ls;
+}
 
 -- all of them together (11.15)
 abbrev pub total : Counts → ℕ
-total c = c .done + c .refused + c .lapsed
+total c = c .done + c .refused + c .lapsed + c .forced
 
 -- what a preview gives: why the hand-in would be turned down, or the counts of what it would add (9.15, 10.8)
 unfoldable pub previewOf : State → ℕ → PreviewReply

@@ -1,6 +1,6 @@
 -- The types that `plan`, `scheduler` and this crate declare, under one name each.
 pub use Rattle.plan.specs.declared.fate.Fate.{Fate}
-pub use Rattle.plan.specs.declared.fate.Fate.the-variants.{Open, Held, Done, Refused, Lapsed}
+pub use Rattle.plan.specs.declared.fate.Fate.the-variants.{Open, Held, Done, Refused, Lapsed, Forced}
 pub use Rattle.plan.specs.declared.history.Entry.{Entry}
 pub use Rattle.plan.specs.declared.calls.Call.{Call}
 pub use Rattle.plan.specs.declared.calls.Call.the-variants.{Submit, Close, Finish}

@@ -26,7 +26,7 @@ fn note_preview(added: &mut [u8; 4], seen: PreviewReply) -> u8
 {
     match seen {
         PreviewReply::Counted(counts) => {
-            *added = [counts.done, counts.refused, counts.lapsed, 0];
+            *added = [counts.done, counts.refused, counts.lapsed, counts.forced];
             0
         }
         PreviewReply::TurnedDown(fault) => call_fault_number(fault) as u8,

@@ -10,11 +10,12 @@ ghost use mathlib.Core.Path.{_≡_};
 ghost use lib.ListN.{take, drop};
 ghost use Rattle.preview.specs.Preview.{countOf, countsIn, previewOf};
 
-// How many lines of a history say done, refused and lapsed.
+// How many lines of a history say done, refused, lapsed and forced.
 pub struct Counts {
     pub done: u8,
     pub refused: u8,
     pub lapsed: u8,
+    pub forced: u8,
 }
 
 // What a preview gives: the counts, or why the hand-in would be turned down.
@@ -45,6 +46,7 @@ fn count_lines(history: [Entry; 16], from: u8, to: u8) -> Counts
         done: count_fate(history, from, to, Fate::Done),
         refused: count_fate(history, from, to, Fate::Refused),
         lapsed: count_fate(history, from, to, Fate::Lapsed),
+        forced: count_fate(history, from, to, Fate::Forced),
     }
 }
 

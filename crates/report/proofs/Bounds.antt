@@ -14,7 +14,7 @@ use denote.Shadow.{shadow}
 use denote.Struct.Declared.{row, shape}
 use denote.Struct.Struct.{Struct}
 use Rattle.plan.proofs.Tests.{count-le}
-use Rattle.report.specs.Types.{SheetFault, Cut, BadKind, Full, BadStep, BadAttributes, BadNames, Unenforceable, Extra, Outcome, Verdict, Admitted, Faulty, Fate, Open, Held, Done, Refused, Lapsed, Entry}
+use Rattle.report.specs.Types.{SheetFault, Cut, BadKind, Full, BadStep, BadAttributes, BadNames, Unenforceable, Extra, Outcome, Verdict, Admitted, Faulty, Fate, Open, Held, Done, Refused, Lapsed, Forced, Entry}
 use Rattle.plan.specs.Plans.{eventCount, ruleCount}
 use Rattle.scheduler.specs.State.{lineCount, lines, fateOf, brokenAt}
 use Rattle.plan.specs.Histories.{blankEntry}
@@ -106,6 +106,7 @@ fate-few Held = omega arith
 fate-few Done = omega arith
 fate-few Refused = omega arith
 fate-few Lapsed = omega arith
+fate-few Forced = omega arith
 
 -- a history line has at most 12 bytes
 entry-few : (l : Entry) → l .event < 256 → length (entryLine l) ≤ 12

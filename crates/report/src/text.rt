@@ -44,6 +44,7 @@ fn put_fate(page: &mut [u8; MOST], at: usize, fate: Fate) -> usize
         Fate::Done => put_bytes(page, at, b" done\n"),
         Fate::Refused => put_bytes(page, at, b" refused\n"),
         Fate::Lapsed => put_bytes(page, at, b" lapsed\n"),
+        Fate::Forced => put_bytes(page, at, b" forced\n"),
     }
 }
 

@@ -91,6 +91,9 @@ fn show_fate(fate: Fate) {
         Fate::Lapsed => {
             io::write_all(STDOUT_FILENO, b" lapsed\n");
         }
+        Fate::Forced => {
+            io::write_all(STDOUT_FILENO, b" forced\n");
+        }
     }
 }
 

@@ -18,11 +18,12 @@ use Rattle.scheduler.specs.State.{fateOf, closedAt, hold, settleAs, shut
 use Rattle.plan.specs.Fates.{isOpen, isHeld, blankStanding}
 use Rattle.scheduler.specs.Rules.{stands, strains}
 use Rattle.plan.specs.Rules.{forbids, owes}
-use Rattle.scheduler.specs.Orders.{chosen, doAll, foundOrder}
+use Rattle.scheduler.specs.Orders.{chosen, foundOrder}
 use Rattle.scheduler.specs.Calls.{settle, breakIf, recordBroken, doAlone, decide, submit, lapse, closeStep, finish}
 use Rattle.plan.specs.Faults.{firstFault}
 use Rattle.scheduler.specs.Coherent.{coherent}
 use Rattle.scheduler.specs.Answers.{unclosedAt, callRows, turnsDown, callFault, idle, accept, turnedDownBy, takeCall, call}
+use Rattle.scheduler.specs.Internal.Marked.{settleAll}
 use Rattle.scheduler.specs.Internal.Turned.{lapseIf}
 use Rattle.plan.proofs.Arrays.{read-in}
 use Rattle.plan.proofs.Tests.{clash, any-false}
@@ -40,12 +41,15 @@ module _ (is b : Bool) (same : is ≡ b) where
   says-yes h = sym same ∙ not-false is h
 
 -- deciding an event, by what the search for an order gives
-module _ (s : State) (e : ℕ) (r : Found) (same : r ≡ foundOrder (chosen s e)) where
+module _ (s : State) (e : ℕ) (r : Found) (same : r ≡ foundOrder s (chosen s e)) where
   -- an order is found, and done
-  pub decide-found : (t : State) → r .ok ≡ true → t ≡ doAll s (take (r .len) (r .events)) → t ≡ decide s e
+  pub decide-found : (t : State)
+      → r .ok ≡ true
+      → t ≡ settleAll s (take (r .len) (r .events)) (take (r .len) (r .opened))
+      → t ≡ decide s e
   decide-found t ok done =
       let f = order-found s e r same ok in
-      done ∙ ap (doAll s) (f .2) ∙ sym (decide-order s e (f .0) (f .1))
+      done ∙ f .does ∙ sym (decide-order s e (f .order) (f .is))
 
   module _ (t : State) (is : Bool) (missing : r .ok ≡ false) (test : is ≡ rejectable (s .plan) e) where
     -- none is found, and the event is rejectable

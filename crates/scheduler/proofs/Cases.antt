@@ -6,7 +6,7 @@ use mathlib.Core.List.{List, [], _∷_, _++_, map}
 use mathlib.Core.Path.{_≡_, refl}
 use Rattle.plan.proofs.FormatCases.{times, sixteenEvents}
 use lib.ListN.{take, replicate}
-use Rattle.scheduler.specs.Prelude.{Fate, Held, Done, Refused, Lapsed, Need, Plan, State, Answer, Is, Made, TurnedDown, Unknown, AlreadyClosed, NotClosed, Incoherent, Admitted, Faulty, Call, Submit, Close, Finish}
+use Rattle.scheduler.specs.Prelude.{Fate, Held, Done, Refused, Lapsed, Forced, Need, Plan, State, Answer, Is, Made, TurnedDown, Unknown, AlreadyClosed, NotClosed, Incoherent, Admitted, Faulty, Call, Submit, Close, Finish}
 use Rattle.plan.specs.Base.{anyBelow, allBelow, countBelow, firstOf, tabulate, lowest}
 use Rattle.plan.specs.Plans.{ruleCount, emptyPlan, hasEvent}
 use Rattle.scheduler.specs.State.{firstState, emptyState, lines, hold, settleAs, shut, breakRule}
@@ -85,8 +85,20 @@ cases =
     ∷ (sheetA, Submit 0 ∷ Close 1 ∷ [], ran (Is Held ∷ Made ∷ []) ((1, Lapsed) ∷ (0, Refused) ∷ []) (false ∷ false ∷ []))
     -- C
     ∷ (sheetC, Submit 1 ∷ Close 0 ∷ [], ran (Is Held ∷ Made ∷ []) ((0, Lapsed) ∷ (1, Done) ∷ []) (false ∷ []))
-    -- D
-    ∷ (sheetD, Submit 0 ∷ [], ran (Is Done ∷ []) ((0, Done) ∷ (1, Done) ∷ []) (false ∷ []))
+    -- D: 1 is done by force, and handed in afterwards it is forced still
+    ∷ (sheetD, Submit 0 ∷ [], ran (Is Done ∷ []) ((0, Done) ∷ (1, Forced) ∷ []) (false ∷ []))
+    ∷ (
+      sheetD,
+      Submit 0 ∷ Submit 1 ∷ Close 1 ∷ Close 0 ∷ Finish ∷ Submit 1 ∷ [],
+      ran (Is Done ∷ Is Forced ∷ Made ∷ Made ∷ Made ∷ Is Forced ∷ []) ((0, Done) ∷ (1, Forced) ∷ []) (false ∷ []),
+    )
+    -- 1 handed in first is done, though it is forcible; so is a forcible event that waits when its turn comes
+    ∷ (sheetD, Submit 1 ∷ Submit 0 ∷ [], ran (Is Done ∷ Is Done ∷ []) ((1, Done) ∷ (0, Done) ∷ []) (false ∷ []))
+    ∷ (
+      1 ∷ 0 ∷ 7 ∷ 1 ∷ 1 ∷ 6 ∷ 3 ∷ 0 ∷ 1 ∷ 5 ∷ [],
+      Submit 0 ∷ Submit 1 ∷ [],
+      ran (Is Held ∷ Is Done ∷ []) ((0, Done) ∷ (1, Done) ∷ []) (false ∷ []),
+    )
     -- E
     ∷ (sheetD, Close 1 ∷ Submit 0 ∷ [], ran (Made ∷ Is Done ∷ []) ((1, Lapsed) ∷ (0, Done) ∷ []) (true ∷ []))
     -- F: 01 00 01 01 01 06 03 00 01 05
@@ -124,7 +136,7 @@ cases =
     ∷ (
       1 ∷ 0 ∷ 6 ∷ 1 ∷ 0 ∷ 6 ∷ 1 ∷ 1 ∷ 6 ∷ 1 ∷ 0 ∷ 1 ∷ 2 ∷ 2 ∷ 0 ∷ 2 ∷ 2 ∷ 1 ∷ 3 ∷ 0 ∷ 3 ∷ 5 ∷ [],
       Submit 0 ∷ Submit 1 ∷ Close 1 ∷ [],
-      ran (Is Held ∷ Is Held ∷ Made ∷ []) ((2, Lapsed) ∷ (0, Done) ∷ (3, Done) ∷ (1, Done) ∷ []) (false ∷ false ∷ false ∷ []),
+      ran (Is Held ∷ Is Held ∷ Made ∷ []) ((2, Lapsed) ∷ (0, Done) ∷ (3, Forced) ∷ (1, Done) ∷ []) (false ∷ false ∷ false ∷ []),
     )
     -- a barred event (1, by need 1, 3) is refused before 0 is done
     ∷ (
@@ -184,7 +196,7 @@ cases =
     ∷ (
       1 ∷ 0 ∷ 6 ∷ 1 ∷ 0 ∷ 3 ∷ 1 ∷ 0 ∷ 6 ∷ 2 ∷ 0 ∷ 1 ∷ 3 ∷ 2 ∷ 1 ∷ 5 ∷ [],
       Submit 2 ∷ Submit 0 ∷ [],
-      ran (Is Done ∷ Is Refused ∷ []) ((1, Done) ∷ (2, Done) ∷ (0, Refused) ∷ []) (false ∷ false ∷ []),
+      ran (Is Done ∷ Is Refused ∷ []) ((1, Forced) ∷ (2, Done) ∷ (0, Refused) ∷ []) (false ∷ false ∷ []),
     )
     -- a conditional of which a alone is rejectable: a is refused and not done alone, b is done alone
     ∷ (
@@ -235,12 +247,12 @@ cases =
       ran (Is Held ∷ Is Held ∷ Made ∷ Is Done ∷ []) ((4, Lapsed) ∷ (1, Done) ∷ (0, Done) ∷ (2, Refused) ∷ []) (replicate 3 false),
     )
     -- an open forcible event is forced so that the one that waits for it can be done
-    ∷ (1 ∷ 0 ∷ 1 ∷ 1 ∷ 1 ∷ 6 ∷ 2 ∷ 0 ∷ 1 ∷ 5 ∷ [], Submit 1 ∷ [], ran (Is Done ∷ []) ((0, Done) ∷ (1, Done) ∷ []) (false ∷ []))
+    ∷ (1 ∷ 0 ∷ 1 ∷ 1 ∷ 1 ∷ 6 ∷ 2 ∷ 0 ∷ 1 ∷ 5 ∷ [], Submit 1 ∷ [], ran (Is Done ∷ []) ((0, Forced) ∷ (1, Done) ∷ []) (false ∷ []))
     -- an order of six is the longest: a chain of six is done by force, and of a chain of seven nothing is done
     ∷ (
       chain 5,
       Submit 0 ∷ [],
-      ran (Is Done ∷ []) ((0, Done) ∷ (1, Done) ∷ (2, Done) ∷ (3, Done) ∷ (4, Done) ∷ (5, Done) ∷ []) (replicate 6 false),
+      ran (Is Done ∷ []) ((0, Done) ∷ (1, Forced) ∷ (2, Forced) ∷ (3, Forced) ∷ (4, Forced) ∷ (5, Forced) ∷ []) (replicate 6 false),
     )
     ∷ (chain 6, Submit 0 ∷ [], ran (Is Held ∷ []) [] (replicate 7 false))
     -- handed in again: answered with its fate, in the same state
@@ -312,6 +324,13 @@ brought =
     ∷ (settleAs Done (settleAs Done (firstOn sheetG) 1) 1, Submit 0 ∷ [], TurnedDown Incoherent ∷ [])
     ∷ (hold (settleAs Done (firstOn sheetG) 0) 0, Submit 1 ∷ [], TurnedDown Incoherent ∷ [])
     ∷ (withLines 1 (settleAs Refused (settleAs Done (firstOn sheetG) 0) 0), Submit 1 ∷ [], TurnedDown Incoherent ∷ [])
+    -- among them a line that says done of a forced event, and the other way round
+    ∷ (withLines 1 (settleAs Forced (settleAs Done (firstOn sheetG) 1) 1), Submit 0 ∷ [], TurnedDown Incoherent ∷ [])
+    ∷ (withLines 1 (settleAs Done (settleAs Forced (firstOn sheetG) 1) 1), Submit 0 ∷ [], TurnedDown Incoherent ∷ [])
+    -- an event that is not forcible may be forced all the same; it counts as done: it bars 0, and owes 1
+    ∷ (settleAs Forced (firstOn sheetG) 1, Submit 1 ∷ Submit 0 ∷ [], Is Forced ∷ Is Refused ∷ [])
+    ∷ (settleAs Forced (firstOn sheetD) 0, Submit 1 ∷ [], TurnedDown Incoherent ∷ [])
+    ∷ (settleAs Forced (settleAs Forced (firstOn sheetD) 0) 1, Submit 1 ∷ [], Is Forced ∷ [])
     -- 12: held without being delayable; open in a closed step
     ∷ (hold (firstOn sheetD) 0, Submit 1 ∷ [], TurnedDown Incoherent ∷ [])
     ∷ (shut (firstOn sheetD) 0, Submit 1 ∷ [], TurnedDown Incoherent ∷ [])
@@ -338,6 +357,16 @@ reportA =
     (101 ∷ 118 ∷ 101 ∷ 110 ∷ 116 ∷ 115 ∷ 32 ∷ 50 ∷ 32 ∷ 114 ∷ 117 ∷ 108 ∷ 101 ∷ 115 ∷ 32 ∷ 50 ∷ 10 ∷ [])  -- events 2 rules 2
     ++ (48 ∷ 32 ∷ 100 ∷ 111 ∷ 110 ∷ 101 ∷ 10 ∷ [])  -- 0 done
     ++ (49 ∷ 32 ∷ 100 ∷ 111 ∷ 110 ∷ 101 ∷ 10 ∷ [])  -- 1 done
+    ++ (104 ∷ 101 ∷ 108 ∷ 100 ∷ 32 ∷ 48 ∷ 10 ∷ [])  -- held 0
+    ++ (98 ∷ 114 ∷ 111 ∷ 107 ∷ 101 ∷ 110 ∷ 32 ∷ 48 ∷ 10 ∷ [])  -- broken 0
+    ++ (114 ∷ 101 ∷ 102 ∷ 117 ∷ 115 ∷ 101 ∷ 100 ∷ 32 ∷ 99 ∷ 97 ∷ 108 ∷ 108 ∷ 115 ∷ 32 ∷ 48 ∷ 10 ∷ [])  -- refused calls 0
+
+-- case D's report
+abbrev pub reportD : List ℕ
+reportD =
+    (101 ∷ 118 ∷ 101 ∷ 110 ∷ 116 ∷ 115 ∷ 32 ∷ 50 ∷ 32 ∷ 114 ∷ 117 ∷ 108 ∷ 101 ∷ 115 ∷ 32 ∷ 49 ∷ 10 ∷ [])  -- events 2 rules 1
+    ++ (48 ∷ 32 ∷ 100 ∷ 111 ∷ 110 ∷ 101 ∷ 10 ∷ [])  -- 0 done
+    ++ (49 ∷ 32 ∷ 102 ∷ 111 ∷ 114 ∷ 99 ∷ 101 ∷ 100 ∷ 10 ∷ [])  -- 1 forced
     ++ (104 ∷ 101 ∷ 108 ∷ 100 ∷ 32 ∷ 48 ∷ 10 ∷ [])  -- held 0
     ++ (98 ∷ 114 ∷ 111 ∷ 107 ∷ 101 ∷ 110 ∷ 32 ∷ 48 ∷ 10 ∷ [])  -- broken 0
     ++ (114 ∷ 101 ∷ 102 ∷ 117 ∷ 115 ∷ 101 ∷ 100 ∷ 32 ∷ 99 ∷ 97 ∷ 108 ∷ 108 ∷ 115 ∷ 32 ∷ 48 ∷ 10 ∷ [])  -- refused calls 0
@@ -382,6 +411,7 @@ abbrev pub reports : List Report
 reports =
     (sheetA, 16 ∷ 0 ∷ 16 ∷ 1 ∷ [], reportA)
     ∷ (sheetA, 16 ∷ 0 ∷ 17 ∷ 0 ∷ 17 ∷ 0 ∷ [], reportHeld)
+    ∷ (sheetD, 16 ∷ 0 ∷ [], reportD)
     ∷ (sheetD, 17 ∷ 1 ∷ 16 ∷ 0 ∷ [], reportE)
     ∷ (sheetF, 16 ∷ 0 ∷ [], reportF)
     -- nine undeclared events and a cut record

@@ -14,7 +14,7 @@ use Rattle.plan.specs.Plans.{eventCount, ruleCount, rejectable, delayable}
 use Rattle.plan.specs.Fates.{isOpen, isSettled}
 use Rattle.scheduler.specs.State.{fateOf, lineCount, lines, hold, settleAs, shut, Sized}
 use Rattle.scheduler.specs.Rules.{barred, strains}
-use Rattle.scheduler.specs.Orders.{doOne, doAll, Runs, chosen}
+use Rattle.scheduler.specs.Orders.{fateAtTurn, doOne, doAll, Runs, chosen}
 use Rattle.scheduler.specs.Calls.{AtRest, settleOnce, settle, breakIf, recordBroken, doAlone, decide, closeStep, refuseHeld, finish}
 use Rattle.scheduler.specs.Answers.{accept}
 use Rattle.scheduler.specs.Lists.{scheduler}
@@ -22,7 +22,7 @@ use Rattle.scheduler.specs.Demand.{Extends}
 use Rattle.scheduler.specs.Grounds.{NoViable, Ground, by-bar, by-submission, by-finish, Trail, end, held, ordered, alone, refused, shuts, lapsed}
 use Rattle.scheduler.specs.Doing.{Acts, Doing}
 use Rattle.plan.proofs.Tests.{clash, either}
-use Rattle.scheduler.proofs.Laws.{fate-hold-other, lines-hold, sized-hold, fate-settle-other, lines-settle, sized-settle, fate-shut, lines-shut, sized-shut, fate-break, lines-break, sized-one, fate-one-other}
+use Rattle.scheduler.proofs.Laws.{plan-settle, plan-break, fate-hold-other, lines-hold, sized-hold, fate-settle-other, lines-settle, sized-settle, fate-shut, lines-shut, sized-shut, fate-break, lines-break, sized-one, fate-one-other}
 use Rattle.scheduler.proofs.Branches.{decide-order, decide-refuse, decide-alone, submit-delayed, submit-decided, lowestHeld, refuse-none, refuse-some, call-fault, call-accept}
 use Rattle.scheduler.proofs.Searching.{sized-doAll, ready-unsettled}
 use Rattle.scheduler.proofs.Settling.{once-none, none-once, rest-none, rest-unbarred, settle-rest, sized-settling}
@@ -110,10 +110,19 @@ order-grows : (s : State) (o : List ℕ) → Sized s → Grows s (doAll s o)
 unfolding doAll
 order-grows s [] z = grow-same s s refl
 order-grows s (c ∷ o) z =
-    grow-then s (doOne s c) (doAll (doOne s c) o) (settle-grows Done s c z) (order-grows (doOne s c) o (sized-one s c z))
+    grow-then s (doOne s c) (doAll (doOne s c) o) (settle-grows (fateAtTurn s c) s c z) (order-grows (doOne s c) o (sized-one s c z))
 
--- recording rules as broken keeps lines and fates
+-- recording rules as broken keeps plan, lines and fates
 module _ (s : State) (e : ℕ) (t : State) where
+  recorded-plan : (n : ℕ) → (recordBroken n s e t) .plan ≡ t .plan
+  unfolding recordBroken
+  recorded-plan zero = refl
+  recorded-plan (suc n) = go (strains s e n) (recorded-plan n)
+    where
+      go : (b : Bool) → (recordBroken n s e t) .plan ≡ t .plan → (breakIf b (recordBroken n s e t) n) .plan ≡ t .plan
+      go true h = plan-break (recordBroken n s e t) n ∙ h
+      go false h = h
+
   pub recorded-lines : (n : ℕ) → lines (recordBroken n s e t) ≡ lines t
   unfolding recordBroken
   recorded-lines zero = refl
@@ -131,6 +140,16 @@ module _ (s : State) (e : ℕ) (t : State) where
       go : (b : Bool) → fateOf (recordBroken n s e t) d ≡ fateOf t d → fateOf (breakIf b (recordBroken n s e t) n) d ≡ fateOf t d
       go true h = fate-break (recordBroken n s e t) n d ∙ h
       go false h = h
+
+-- what an event done alone leaves
+module _ (s : State) (e : ℕ) where
+  pub alone-plan : (doAlone s e) .plan ≡ s .plan
+  unfolding doAlone
+  alone-plan = recorded-plan s e (settleAs Done s e) (ruleCount (s .plan)) ∙ plan-settle Done s e
+
+  pub alone-fate : (d : ℕ) → fateOf (doAlone s e) d ≡ fateOf (settleAs Done s e) d
+  unfolding doAlone
+  alone-fate = recorded-fate s e (settleAs Done s e) (ruleCount (s .plan))
 
 alone-grows : (s : State) (e : ℕ) → Sized s → Grows s (doAlone s e)
 unfolding doAlone
@@ -181,8 +200,7 @@ order-fixed s (c ∷ o) r e h =
     order-fixed (doOne s c) o (r .2) e (ap isSettled same ∙ h) ∙ same
 
 alone-fixed : (s : State) (d e : ℕ) → e ≢ d → fateOf (doAlone s d) e ≡ fateOf s e
-unfolding doAlone
-alone-fixed s d e ne = recorded-fate s d (settleAs Done s d) (ruleCount (s .plan)) e ∙ fate-settle-other Done s d e ne
+alone-fixed s d e ne = alone-fate s d e ∙ fate-settle-other Done s d e ne
 
 -- along a trail a settled fate never changes
 pub settled-fixed : {c : Call} {s t : State} → Trail c s t → (e : ℕ) → isSettled (fateOf s e) ≡ true → fateOf t e ≡ fateOf s e

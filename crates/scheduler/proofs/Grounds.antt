@@ -96,17 +96,19 @@ module _ (s : State) (e : ℕ) (z : Sized s) (lt : e < 16) where
       go none h (inr r) =
           at (doAlone t e) (decide-alone t e h r) (sized-alone t e sized) (alone e refl is-held waits r (chosen-none t e h) end)
 
--- hand in
-submit-trail : (s : State) (e : ℕ) → Sized s → e < 16 → Trail (Submit e) s (submit s e)
-submit-trail s e z lt = elim (either (isOpen (fateOf s e))) [
-  | inr shut ↦ subst (Trail (Submit e) s) (sym (submit-same s e shut)) end
-  | inl is-open ↦
-      let h : fateOf s e ≡ Open = open-is (fateOf s e) is-open in
-      elim (either (delayable (s .plan) e)) [
-        | inl d ↦ subst (Trail (Submit e) s) (sym (submit-delayed s e is-open d)) (held e refl h (settle-trail (Submit e) (hold s e) (sized-hold s e z)))
-        | inr d ↦ subst (Trail (Submit e) s) (sym (submit-decided s e is-open d)) (held e refl h (decide-trail s e z lt d))
-      ]
-]
+-- hand in: an open event is held, and then what follows
+module _ (s : State) (e : ℕ) (z : Sized s) (lt : e < 16) where
+  pub held-trail : isOpen (fateOf s e) ≡ true → Trail (Submit e) (hold s e) (submit s e)
+  held-trail is-open = elim (either (delayable (s .plan) e)) [
+    | inl d ↦ subst (Trail (Submit e) (hold s e)) (sym (submit-delayed s e is-open d)) (settle-trail (Submit e) (hold s e) (sized-hold s e z))
+    | inr d ↦ subst (Trail (Submit e) (hold s e)) (sym (submit-decided s e is-open d)) (decide-trail s e z lt d)
+  ]
+
+  submit-trail : Trail (Submit e) s (submit s e)
+  submit-trail = elim (either (isOpen (fateOf s e))) [
+    | inr shut ↦ subst (Trail (Submit e) s) (sym (submit-same s e shut)) end
+    | inl is-open ↦ held e refl (open-is (fateOf s e) is-open) (held-trail is-open)
+  ]
 
 -- closing a step
 lapse-trail : (n e : ℕ) (s : State) (k : ℕ) → Sized s → Trail (Close k) s (lapse n e s k) × Sized (lapse n e s k)
@@ -153,7 +155,7 @@ unfolding finish
 finish-trail s z = then (settle-trail Finish s z) (refuse-trail 16 (settle s) (sized-settling s z) (settle-rest s z))
 
 -- a hand-in that is taken names an event that stands in the arrays
-submit-low : (s : State) (e : ℕ) → callFault s (Submit e) ≡ none → e < 16
+pub submit-low : (s : State) (e : ℕ) → callFault s (Submit e) ≡ none → e < 16
 unfolding callFault
 submit-low s e h =
     let q = none-applies (not (coherent s)) Incoherent (callRows s (Submit e)) h in

@@ -10,12 +10,13 @@ use mathlib.Core.Logic.{_≢_, _⊎_, inl, inr}
 use mathlib.Core.Path.{_≡_, refl, sym, _∙_, ap}
 use lib.ListN.{getD}
 use lib.Seq.{take-suc-set}
-use Rattle.scheduler.specs.Prelude.{Fate, Open, Held, Done, Standing, State}
-use Rattle.plan.specs.Fates.{isSettled, blankStanding}
+use Rattle.scheduler.specs.Prelude.{Fate, Open, Held, Standing, State}
+use Rattle.plan.specs.Fates.{isOpen, isDone, isSettled, blankStanding}
 use Rattle.plan.specs.Histories.{blankEntry}
 use Rattle.scheduler.specs.State.{fateOf, brokenAt, closedAt, lineCount, lines, hold, settleAs, shut, breakRule, Sized}
+use Rattle.plan.proofs.Fates.{as-done}
 use Rattle.plan.proofs.Arrays.{read-past, read-other, get-other, length-store, read-same}
-use Rattle.scheduler.specs.Orders.{doOne}
+use Rattle.scheduler.specs.Orders.{fateAtTurn, doOne}
 
 -- past an array's end stands the blank
 pub fate-past : (s : State) (e : ℕ) → 16 ≤ e → fateOf s e ≡ Open
@@ -84,20 +85,29 @@ fate-settle-either x s e j z = elim (ℕ-discrete j e) [
 
 -- one event of an order is done: what those who run orders use
 module _ (s : State) (c : ℕ) where
+  pub turn-done : isDone (fateAtTurn s c) ≡ true
+  turn-done = as-done isDone refl (isOpen (fateOf s c))
+
+  pub turn-settled : isSettled (fateAtTurn s c) ≡ true
+  turn-settled = as-done isSettled refl (isOpen (fateOf s c))
+
   pub plan-one : (doOne s c) .plan ≡ s .plan
-  plan-one = plan-settle Done s c
+  plan-one = plan-settle (fateAtTurn s c) s c
 
   pub sized-one : Sized s → Sized (doOne s c)
-  sized-one z = sized-settle Done s c z
+  sized-one z = sized-settle (fateAtTurn s c) s c z
 
   pub one-settled : Sized s → c < 16 → isSettled (fateOf (doOne s c) c) ≡ true
-  one-settled z lt = ap isSettled (fate-settle-same Done s c z lt)
+  one-settled z lt = ap isSettled (fate-settle-same (fateAtTurn s c) s c z lt) ∙ turn-settled
 
   pub fate-one-other : (j : ℕ) → j ≢ c → fateOf (doOne s c) j ≡ fateOf s j
-  fate-one-other j ne = fate-settle-other Done s c j ne
+  fate-one-other j ne = fate-settle-other (fateAtTurn s c) s c j ne
 
   pub settled-one : (e : ℕ) → Sized s → isSettled (fateOf s e) ≡ true → isSettled (fateOf (doOne s c) e) ≡ true
-  settled-one e z h = elim (fate-settle-either Done s c e z) [ inl d ↦ ap isSettled d | inr q ↦ ap isSettled q ∙ h ]
+  settled-one e z h = elim (fate-settle-either (fateAtTurn s c) s c e z) [
+    | inl d ↦ ap isSettled d ∙ turn-settled
+    | inr q ↦ ap isSettled q ∙ h
+  ]
 
 -- an event is held
 module _ (s : State) (e : ℕ) where

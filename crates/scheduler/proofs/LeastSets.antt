@@ -10,7 +10,7 @@ use mathlib.Core.Logic.{inl, inr}
 use mathlib.Core.Option.{Option, none, some}
 use mathlib.Core.Path.{_≡_, refl, sym, _∙_, ap, subst, fun-ext}
 use lib.ListN.{length}
-use Rattle.scheduler.specs.Prelude.{Done, Rule, State}
+use Rattle.scheduler.specs.Prelude.{Rule, State}
 use Rattle.plan.specs.Base.{anyBelow, among}
 use Rattle.plan.specs.Fates.{Fates}
 use Rattle.plan.specs.Plans.{eventCount, ruleCount, ruleAt}
@@ -20,7 +20,7 @@ use Rattle.orders.specs.Runs.{doing, May, Run}
 use Rattle.orders.specs.Stepwise.{stepwise}
 use Rattle.scheduler.specs.State.{fateOf, settleAs, Sized}
 use Rattle.scheduler.specs.Rules.{stands, forbidden, owing}
-use Rattle.scheduler.specs.Orders.{mayDo, doOne, Runs, Viable, First, chosen}
+use Rattle.scheduler.specs.Orders.{mayDo, fateAtTurn, doOne, Runs, Viable, First, chosen}
 use Rattle.scheduler.specs.Internal.Hopeful.{Hopeful}
 use Rattle.plan.proofs.Tests.{and-left, and-right, and-both, and-not, or-left, or-right, or-both, clash, either, any-false, any-none}
 use Rattle.orders.proofs.Grounds.{refuted, each-fails, all-fail, bars-grounds, grounds-bar, wait-grounds, grounds-wait, owes-grounds, grounds-owe}
@@ -69,8 +69,8 @@ module _ (s : State) (c : ℕ) where
 -- the fates after an event is done
 pub fates-one : (s : State) (c : ℕ) → Sized s → c < 16 → fateOf (doOne s c) ≡ doing (fateOf s) c
 fates-one s c z lt = fun-ext (λ x. elim (ℕ-discrete x c) [
-  | yes q ↦ subst (λ (v : ℕ). fateOf (doOne s c) v ≡ Done) (sym q) (fate-settle-same Done s c z lt) ∙ sym (doing-same (fateOf s) c x q)
-  | no ne ↦ fate-settle-other Done s c x ne ∙ sym (doing-other (fateOf s) c x ne)
+  | yes q ↦ subst (λ (v : ℕ). fateOf (doOne s c) v ≡ fateAtTurn s c) (sym q) (fate-settle-same (fateAtTurn s c) s c z lt) ∙ sym (doing-same (fateOf s) c x q)
+  | no ne ↦ fate-settle-other (fateAtTurn s c) s c x ne ∙ sym (doing-other (fateOf s) c x ne)
 ])
 
 module _ (s : State) (c : ℕ) (o : List ℕ) (z : Sized s) (lt : c < 16) where

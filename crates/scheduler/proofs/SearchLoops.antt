@@ -8,12 +8,12 @@ use mathlib.Core.Bool.{Bool, true, false, not, _&&_, _||_}
 use mathlib.Core.List.{List, [], _∷_}
 use mathlib.Core.Logic.{inl, inr}
 use mathlib.Core.Option.{Option, none, some, Option·map}
-use mathlib.Core.Path.{_≡_, refl, sym, _∙_, ap, subst, fun-ext}
+use mathlib.Core.Path.{_≡_, refl, sym, _∙_, ap, ap₂, subst, fun-ext}
 use lib.Dec.{eqb, ltb}
 use lib.ListN.{length, getD, set, replicate}
 use Rattle.scheduler.specs.declared.order.Found.{Found}
 use Rattle.scheduler.specs.Prelude.{take, State}
-use Rattle.plan.specs.Fates.{Fates}
+use Rattle.plan.specs.Fates.{Fates, isOpen}
 use Rattle.plan.specs.Base.{tabulate, lowest}
 use Rattle.orders.specs.Closed.{Events}
 use Rattle.orders.specs.Runs.{doing}
@@ -25,9 +25,9 @@ use Rattle.members.specs.Growing.{Closes}
 use Rattle.members.specs.Lacking.{Spared}
 use Rattle.scheduler.specs.State.{fateOf, settleAs, Sized}
 use Rattle.scheduler.specs.Rules.{stands}
-use Rattle.scheduler.specs.Orders.{doOne, chosen, noOrder, foundOrder}
+use Rattle.scheduler.specs.Orders.{fateAtTurn, doOne, chosen, opens, noOrder, foundOrder}
 use Rattle.scheduler.specs.Internal.Hopeful.{Hopeful}
-use Rattle.scheduler.specs.Internal.Placed.{placed, foundFrom}
+use Rattle.scheduler.specs.Internal.Placed.{blankOrder, placed, foundFrom}
 use Rattle.plan.specs.Plans.{eventCount}
 use Rattle.plan.specs.Rules.{ready}
 use Rattle.plan.proofs.Tests.{and-left, and-right, and-both, clash, either}
@@ -48,35 +48,44 @@ module _ (f : Option (List ℕ) → Found) (no : f none .ok ≡ false) (yes : (o
   answer-some none r same t = absurd (clash t (ap (λ (w : Found). w .ok) same ∙ no))
   answer-some (some o) r same t = (o, refl)
 
-found-none : (i : ℕ) (q : Option (List ℕ)) (r : Found) → r ≡ foundFrom i q → r .ok ≡ false → q ≡ none
+found-none : (s : State) (i : ℕ) (q : Option (List ℕ)) (r : Found) → r ≡ foundFrom s i q → r .ok ≡ false → q ≡ none
 unfolding foundFrom
-found-none i = answer-none (foundFrom i) refl (λ o. refl)
+found-none s i = answer-none (foundFrom s i) refl (λ o. refl)
 
-found-some : (i : ℕ) (q : Option (List ℕ)) (r : Found) → r ≡ foundFrom i q → r .ok ≡ true → (o : List ℕ) × (q ≡ some o)
+found-some : (s : State) (i : ℕ) (q : Option (List ℕ)) (r : Found)
+    → r ≡ foundFrom s i q
+    → r .ok ≡ true
+    → (o : List ℕ) × (q ≡ some o)
 unfolding foundFrom
-found-some i = answer-some (foundFrom i) refl (λ o. refl)
+found-some s i = answer-some (foundFrom s i) refl (λ o. refl)
 
--- an order of at most six events: in the search's array it stands as it is handed over, whole at the front
-pub record Fits (o : List ℕ) : Type 0 where
-  pub placed-whole : placed 0 o ≡ tabulate 6 0 (λ i. getD o i 0)
-  pub front-whole : take (length o) (tabulate 6 0 (λ i. getD o i 0)) ≡ o
+-- a row of at most six: in the search's array it stands as it is handed over, whole at the front
+pub record Fits {A : Type 0} (blank : A) (o : List A) : Type 0 where
+  pub placed-whole : placed blank 0 o ≡ tabulate 6 0 (λ i. getD o i blank)
+  pub front-whole : take (length o) (tabulate 6 0 (λ i. getD o i blank)) ≡ o
 
-pub fits : (o : List ℕ) → length o ≤ 6 → Fits o
+pub fits : {A : Type 0} (blank : A) (o : List A) → length o ≤ 6 → Fits blank o
 unfolding placed tabulate
-fits [] h = record { placed-whole = refl; front-whole = refl }
-fits (a ∷ []) h = record { placed-whole = refl; front-whole = refl }
-fits (a ∷ b ∷ []) h = record { placed-whole = refl; front-whole = refl }
-fits (a ∷ b ∷ c ∷ []) h = record { placed-whole = refl; front-whole = refl }
-fits (a ∷ b ∷ c ∷ d ∷ []) h = record { placed-whole = refl; front-whole = refl }
-fits (a ∷ b ∷ c ∷ d ∷ e ∷ []) h = record { placed-whole = refl; front-whole = refl }
-fits (a ∷ b ∷ c ∷ d ∷ e ∷ f ∷ []) h = record { placed-whole = refl; front-whole = refl }
-fits (a ∷ b ∷ c ∷ d ∷ e ∷ f ∷ g ∷ o) h = absurd (omega arith)
+fits blank [] h = record { placed-whole = refl; front-whole = refl }
+fits blank (a ∷ []) h = record { placed-whole = refl; front-whole = refl }
+fits blank (a ∷ b ∷ []) h = record { placed-whole = refl; front-whole = refl }
+fits blank (a ∷ b ∷ c ∷ []) h = record { placed-whole = refl; front-whole = refl }
+fits blank (a ∷ b ∷ c ∷ d ∷ []) h = record { placed-whole = refl; front-whole = refl }
+fits blank (a ∷ b ∷ c ∷ d ∷ e ∷ []) h = record { placed-whole = refl; front-whole = refl }
+fits blank (a ∷ b ∷ c ∷ d ∷ e ∷ f ∷ []) h = record { placed-whole = refl; front-whole = refl }
+fits blank (a ∷ b ∷ c ∷ d ∷ e ∷ f ∷ g ∷ o) h = absurd (omega arith)
 
-found-all : (o : List ℕ) → length o ≤ 6 → foundFrom 0 (some o) ≡ foundOrder (some o)
+-- one mark for each event
+pub opens-length : (s : State) (o : List ℕ) → length (opens s o) ≡ length o
+unfolding opens
+opens-length s [] = refl
+opens-length s (c ∷ o) = ap suc (opens-length (doOne s c) o)
+
+found-all : (s : State) (o : List ℕ) → length o ≤ 6 → foundFrom s 0 (some o) ≡ foundOrder s (some o)
 unfolding foundFrom foundOrder
-found-all o h =
+found-all s o h =
     let len : 0 + length o ≡ length o = omega arith in
-    rw (fits o h .placed-whole, len)
+    rw (fits 0 o h .placed-whole, fits false (opens s o) (omega (arith, opens-length s o)) .placed-whole, len)
 
 -- the lowest event of a set, as code hands it over
 module _ (t : ℕ → Bool) (x : ℕ) (same : x ≡ orSixteen (lowest 16 t)) where
@@ -116,36 +125,40 @@ pub shows-one : (s : State) (x : ℕ) (v : View)
 unfolding settleAs
 shows-one s x v z lt w = subst (λ (f : Fates). Shows (s .plan) f v) (sym (fates-one s x z lt)) w
 
+-- an order with an event placed, and whether it was open
+abbrev pub withEvent : Found → ℕ → ℕ → Bool → Found
+withEvent r at x opened =
+    record { ok = r .ok; events = set (r .events) at x; opened = set (r .opened) at opened; len = r .len }
+
 -- the search from a state
 module _ (s : State) (left at places : ℕ) where
   abbrev pub steps : Option (List ℕ)
   steps = stepwise (s .plan) (stands s) places (fateOf s) (inSet left)
 
   -- a search that goes on with x, by what the search after it answers
-  pub record Onward (x : ℕ) (r : Found) : Type 0 where
-    pub miss : r .ok ≡ false → noOrder ≡ foundFrom at steps
-    pub hit : r .ok ≡ true
-        → _≡_ {A = Found} (record { ok = r .ok; events = set (r .events) at x; len = r .len }) (foundFrom at steps)
+  pub record Onward (x : ℕ) (opened : Bool) (r : Found) : Type 0 where
+    pub miss : r .ok ≡ false → noOrder ≡ foundFrom s at steps
+    pub hit : r .ok ≡ true → withEvent r at x opened ≡ foundFrom s at steps
 
   -- a search that takes x, with the events after it left: the order ends with it, or goes on
-  pub record Took (x after : ℕ) : Type 0 where
+  pub record Took (x : ℕ) (opened : Bool) (after : ℕ) : Type 0 where
     pub last : (y : ℕ)
         → y ≡ orSixteen (lowest 16 (inSet after))
         → y ≡ 16
-        → _≡_ {A = Found} (record { ok = true; events = set (replicate 6 0) at x; len = at + 1 }) (foundFrom at steps)
+        → withEvent (blankOrder true (at + 1)) at x opened ≡ foundFrom s at steps
     pub on : (r : Found)
-        → r ≡ foundFrom (at + 1) (stepwise ((doOne s x) .plan) (stands (doOne s x)) (places - 1) (fateOf (doOne s x)) (inSet after))
-        → Onward x r
+        → r ≡ foundFrom (doOne s x) (at + 1) (stepwise ((doOne s x) .plan) (stands (doOne s x)) (places - 1) (fateOf (doOne s x)) (inSet after))
+        → Onward x opened r
 
   -- nothing is left: the order ends here
   pub search-end : (x : ℕ)
       → x ≡ orSixteen (lowest 16 (inSet left))
       → x ≡ 16
-      → _≡_ {A = Found} (record { ok = true; events = replicate 6 0; len = at }) (foundFrom at steps)
-  unfolding foundFrom placed
+      → blankOrder true at ≡ foundFrom s at steps
+  unfolding foundFrom placed opens
   search-end x same q =
       let empty = none-nothing (inSet left) (lowest-none 16 (inSet left) (lowest-sixteen (inSet left) x same q)) in
-      rw (step-ends (s .plan) (stands s) places (fateOf s) (inSet left) empty) (ap {B = Found} (λ (n : ℕ). record { ok = true; events = replicate 6 0; len = n }) (omega arith))
+      rw (step-ends (s .plan) (stands s) places (fateOf s) (inSet left) empty) (ap (blankOrder true) (omega arith))
 
   module _ (x : ℕ) (same : x ≡ orSixteen (lowest 16 (inSet left))) (ne : x ≡ 16 → ⊥) where
     some-event : (o : Option ℕ) → lowest 16 (inSet left) ≡ o → nothing (inSet left) ≡ false
@@ -156,7 +169,7 @@ module _ (s : State) (left at places : ℕ) where
     search-more = some-event (lowest 16 (inSet left)) refl
 
   -- some event is left and no place
-  pub search-full : nothing (inSet left) ≡ false → places ≡ 0 → noOrder ≡ foundFrom at steps
+  pub search-full : nothing (inSet left) ≡ false → places ≡ 0 → noOrder ≡ foundFrom s at steps
   unfolding foundFrom
   search-full h q =
       rw (q, step-full (s .plan) (stands s) (fateOf s) (inSet left) h)
@@ -169,9 +182,9 @@ module _ (s : State) (left at places : ℕ) where
 
     module _ (more : nothing (inSet left) ≡ false) (some-place : places ≡ 0 → ⊥) (x : ℕ) (same : x ≡ orSixteen (lowest 16 (inSet d))) where
       -- every event that is left is blocked
-      pub search-stuck : (x < 16 → ⊥) → noOrder ≡ foundFrom at steps
+      pub search-stuck : (x < 16 → ⊥) → noOrder ≡ foundFrom s at steps
       unfolding foundFrom
-      search-stuck n = ap (foundFrom at) (sym (go places refl))
+      search-stuck n = ap (foundFrom s at) (sym (go places refl))
         where
           go : (k : ℕ) → places ≡ k → stepwise (s .plan) (stands s) places (fateOf s) (inSet left) ≡ none
           go zero q = absurd (some-place q)
@@ -179,7 +192,8 @@ module _ (s : State) (left at places : ℕ) where
 
       module _ (z : Sized s) (lt : x < 16) (one after : ℕ)
           (is-one : (y : ℕ) → inSet one y ≡ ((eqb y x && (ltb x 16 && true)) || inSet 0 y))
-          (is-after : (y : ℕ) → inSet after y ≡ (inSet left y && not (inSet one y))) where
+          (is-after : (y : ℕ) → inSet after y ≡ (inSet left y && not (inSet one y)))
+          (opened : Bool) (told : opened ≡ isOpen (fateOf s x)) where
         abbrev later : Option (List ℕ)
         later = stepwise (s .plan) (stands s) (places - 1) (doing (fateOf s) x) (less (inSet left) x)
 
@@ -199,53 +213,55 @@ module _ (s : State) (left at places : ℕ) where
         search-last : (y : ℕ)
             → y ≡ orSixteen (lowest 16 (inSet after))
             → y ≡ 16
-            → _≡_ {A = Found} (record { ok = true; events = set (replicate 6 0) at x; len = at + 1 }) (foundFrom at steps)
-        unfolding foundFrom placed
+            → withEvent (blankOrder true (at + 1)) at x opened ≡ foundFrom s at steps
+        unfolding foundFrom placed opens
         search-last y low q =
             let empty = none-nothing (inSet after) (lowest-none 16 (inSet after) (lowest-sixteen (inSet after) y low q)) in
             let ends = step-ends (s .plan) (stands s) (places - 1) (doing (fateOf s) x) (less (inSet left) x) (sym (ap nothing (after-less left x lt one after is-one is-after)) ∙ empty) in
-            ap (foundFrom at) (sym (steps-take ∙ ap (Option·map (λ (o : List ℕ). x ∷ o)) ends))
+            ap (withEvent (blankOrder true (at + 1)) at x) told
+            ∙ ap (foundFrom s at) (sym (steps-take ∙ ap (Option·map (λ (o : List ℕ). x ∷ o)) ends))
 
-        module _ (r : Found) (found : r ≡ foundFrom (at + 1) (stepwise ((doOne s x) .plan) (stands (doOne s x)) (places - 1) (fateOf (doOne s x)) (inSet after))) where
-          found-later : r ≡ foundFrom (at + 1) later
-          found-later = found ∙ ap (foundFrom (at + 1)) later-same
+        module _ (r : Found) (found : r ≡ foundFrom (doOne s x) (at + 1) (stepwise ((doOne s x) .plan) (stands (doOne s x)) (places - 1) (fateOf (doOne s x)) (inSet after))) where
+          found-later : r ≡ foundFrom (doOne s x) (at + 1) later
+          found-later = found ∙ ap (foundFrom (doOne s x) (at + 1)) later-same
 
-          search-miss : r .ok ≡ false → noOrder ≡ foundFrom at steps
+          search-miss : r .ok ≡ false → noOrder ≡ foundFrom s at steps
           unfolding foundFrom
-          search-miss f = ap (foundFrom at) (sym (steps-take ∙ ap (Option·map (λ (o : List ℕ). x ∷ o)) (found-none (at + 1) later r found-later f)))
+          search-miss f = ap (foundFrom s at) (sym (steps-take ∙ ap (Option·map (λ (o : List ℕ). x ∷ o)) (found-none (doOne s x) (at + 1) later r found-later f)))
 
-          hit-with : (o : List ℕ) → later ≡ some o → _≡_ {A = Found} (record { ok = r .ok; events = set (r .events) at x; len = r .len }) (foundFrom at steps)
-          unfolding foundFrom placed
+          hit-with : (o : List ℕ) → later ≡ some o → withEvent r at x opened ≡ foundFrom s at steps
+          unfolding foundFrom placed opens
           hit-with o q =
-              ap (λ (w : Found). record { ok = w .ok; events = set (w .events) at x; len = w .len }) (found-later ∙ ap (foundFrom (at + 1)) q)
-              ∙ ap {B = Found} (λ (n : ℕ). record { ok = true; events = set (placed (at + 1) o) at x; len = n }) (omega arith)
-              ∙ ap (foundFrom at) (sym (steps-take ∙ ap (Option·map (λ (u : List ℕ). x ∷ u)) q))
+              let marks = placed false (at + 1) (opens (doOne s x) o) in
+              ap₂ (λ (w : Found) (b : Bool). withEvent w at x b) (found-later ∙ ap (foundFrom (doOne s x) (at + 1)) q) told
+              ∙ ap {B = Found} (λ (n : ℕ). withEvent (record { ok = true; events = placed 0 (at + 1) o; opened = marks; len = n }) at x (isOpen (fateOf s x))) (omega arith)
+              ∙ ap (foundFrom s at) (sym (steps-take ∙ ap (Option·map (λ (u : List ℕ). x ∷ u)) q))
 
-          search-hit : r .ok ≡ true → _≡_ {A = Found} (record { ok = r .ok; events = set (r .events) at x; len = r .len }) (foundFrom at steps)
-          search-hit t = let f = found-some (at + 1) later r found-later t in hit-with (f .0) (f .1)
+          search-hit : r .ok ≡ true → withEvent r at x opened ≡ foundFrom s at steps
+          search-hit t = let f = found-some (doOne s x) (at + 1) later r found-later t in hit-with (f .0) (f .1)
 
           -- the answer, by what that search answers
-          search-on : Onward x r
+          search-on : Onward x opened r
           search-on = record { miss = search-miss; hit = search-hit }
 
-        pub search-took : Took x after
+        pub search-took : Took x opened after
         search-took = record { last = search-last; on = search-on }
 
 -- the search among the members
 module _ (s : State) (z : Sized s) (e able : ℕ) (k : Hopeful s (inSet able)) (m : Members) (closes : Closes (s .plan) (stands s) (fateOf s) (inSet able) e m) where
-  pub members-none : m .ok ≡ false → noOrder ≡ foundOrder (chosen s e)
+  pub members-none : m .ok ≡ false → noOrder ≡ foundOrder s (chosen s e)
   unfolding foundOrder
-  members-none f = ap foundOrder (sym (no-fit-none s z e (inSet able) k (closes .none-fits f)))
+  members-none f = ap (foundOrder s) (sym (no-fit-none s z e (inSet able) k (closes .none-fits f)))
 
-  pub members-found : m .ok ≡ true → (r : Found) → r ≡ foundFrom 0 (steps s (m .set) 0 6) → r ≡ foundOrder (chosen s e)
-  members-found t r same = same ∙ ap (foundFrom 0) (sym taken) ∙ go (chosen s e) refl
+  pub members-found : m .ok ≡ true → (r : Found) → r ≡ foundFrom s 0 (steps s (m .set) 0 6) → r ≡ foundOrder s (chosen s e)
+  members-found t r same = same ∙ ap (foundFrom s 0) (sym taken) ∙ go (chosen s e) refl
     where
       taken : chosen s e ≡ steps s (m .set) 0 6
       taken = chosen-taken s z e (inSet able) k (inSet (m .set)) (closes .found t)
 
-      go : (o : Option (List ℕ)) → chosen s e ≡ o → foundFrom 0 (chosen s e) ≡ foundOrder (chosen s e)
+      go : (o : Option (List ℕ)) → chosen s e ≡ o → foundFrom s 0 (chosen s e) ≡ foundOrder s (chosen s e)
       go none q = rw q (unfold foundFrom foundOrder in refl)
-      go (some o) q = rw q (found-all o (chosen-short s e o q))
+      go (some o) q = rw q (found-all s o (chosen-short s e o q))
 
 -- what a view says of the events at hand
 pub hopeful-all : (s : State) (v : View) → Shows (s .plan) (fateOf s) v → Hopeful s (inSet (v .able))

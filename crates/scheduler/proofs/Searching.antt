@@ -10,7 +10,7 @@ use mathlib.Core.Option.{Option, none, some, Option·map}
 use mathlib.Core.Path.{_≡_, refl, sym, _∙_, ap, subst}
 use lib.Dec.{eqb}
 use lib.ListN.{length}
-use Rattle.scheduler.specs.Prelude.{Fate, Open, Held, Done, Refused, Lapsed, Event, Plan, State}
+use Rattle.scheduler.specs.Prelude.{Fate, Open, Held, Done, Refused, Lapsed, Forced, Event, Plan, State}
 use Rattle.plan.specs.Plans.{eventCount, eventAt, blankEvent, holdsBit, forcible}
 use Rattle.scheduler.specs.State.{fateOf, Sized}
 use Rattle.plan.specs.Fates.{isOpen, isHeld, isSettled}
@@ -32,6 +32,7 @@ ready-unsettled s c m = go (fateOf s c) (and-left (ready (s .plan) (fateOf s) c)
     go Done m = absurd (clash m refl)
     go Refused m = absurd (clash m refl)
     go Lapsed m = absurd (clash m refl)
+    go Forced m = absurd (clash m refl)
 
 event-past : (p : Plan) (e : ℕ) → 16 ≤ e → eventAt p e ≡ blankEvent
 event-past p e ge = rw (le-ltb e 16 ge, eventAt)

@@ -8,84 +8,108 @@ use mathlib.Core.Bool.{Bool, true, false, _&&_, and-false, or-false, and-assoc}
 use mathlib.Core.List.{List, [], _∷_}
 use mathlib.Core.Logic.{inl, inr}
 use mathlib.Core.Option.{Option, none, some, Option·map}
-use mathlib.Core.Path.{_≡_, refl, sym, _∙_, ap, fun-ext}
+use mathlib.Core.Path.{_≡_, refl, sym, _∙_, ap, ap₂, fun-ext}
 use lib.Dec.{eqb, ltb}
 use lib.ListN.{length, getD, take, drop, drop-of-length-le}
 use lib.Seq.{drop-cons, length-take-le, take-all}
 use Rattle.scheduler.specs.declared.order.Found.{Found}
 use Rattle.scheduler.specs.declared.settle.Turned.{Turned}
 use Rattle.scheduler.specs.Prelude.{Refused, Rule, Order, Need, Conditional, State}
-use Rattle.plan.specs.Base.{anyBelow, when, lowest}
+use Rattle.plan.specs.Base.{anyBelow, when, lowest, tabulate}
 use Rattle.plan.specs.Plans.{eventCount, ruleCount, ruleAt}
 use Rattle.plan.specs.Rules.{bars, ready}
 use Rattle.orders.specs.Stepwise.{follows, blocked}
 use Rattle.members.specs.declared.view.View.{View}
 use Rattle.members.specs.Sets.{inSet, orSixteen, Shows}
-use Rattle.scheduler.specs.Orders.{doOne, doAll, chosen, noOrder, foundOrder}
+use Rattle.scheduler.specs.Orders.{doOne, doAll, chosen, opens, noOrder, foundOrder}
 use Rattle.scheduler.specs.State.{fateOf, settleAs}
-use Rattle.plan.specs.Fates.{isHeld, isDone, isGone}
+use Rattle.plan.specs.Fates.{isHeld, isDone, isGone, doneAs}
 use Rattle.scheduler.specs.Rules.{stands, barred}
 use Rattle.scheduler.specs.Calls.{toRefuse, toDo, settleOnce, settleUpTo, settle, refuseHeld, finish}
 use Rattle.scheduler.specs.Internal.Hopeful.{Hopeful}
+use Rattle.scheduler.specs.Internal.Marked.{settleAll}
 use Rattle.scheduler.specs.Internal.Turned.{turnOf}
 use Rattle.plan.proofs.Tests.{and-left, and-not, clash, either, any-false, any-none, first-some, when-some, some-none}
 use Rattle.scheduler.proofs.Branches.{upTo-none, upTo-some, lowestHeld, refuse-none, refuse-some}
 use Rattle.plan.proofs.Loops.{Rest, first-here, first-end}
 use Rattle.scheduler.proofs.Searching.{chosen-short}
-use Rattle.scheduler.proofs.SearchLoops.{fits, answer-some, answer-none, lowest-below, lowest-past, lowest-sixteen}
+use Rattle.scheduler.proofs.SearchLoops.{fits, opens-length, answer-some, answer-none, lowest-below, lowest-past, lowest-sixteen}
 use Rattle.scheduler.proofs.Laws.{fate-past}
 use Rattle.orders.proofs.Lowest.{first-nowhere, lowest-some, lowest-none, lowest-bounds}
 use Rattle.members.proofs.Bits.{in-zero}
 
--- where an order of at most six events was found, it stands at the front of the array
-found-front : (q : Option (List ℕ))
+-- an order settled by the marks that tell which of its events are open: it is done
+settle-opens : (s : State) (o : List ℕ) → settleAll s o (opens s o) ≡ doAll s o
+unfolding settleAll opens doAll
+settle-opens s [] = refl
+settle-opens s (c ∷ o) = settle-opens (doOne s c) o
+
+-- an order was found, and settling the events at the front of the arrays does it
+pub record Front (s : State) (q : Option (List ℕ)) (r : Found) : Type 0 where
+  pub order : List ℕ
+  pub is : q ≡ some order
+  pub does : settleAll s (take (r .len) (r .events)) (take (r .len) (r .opened)) ≡ doAll s order
+
+-- where an order of at most six events was found, it stands at the front of the arrays
+found-front : (s : State) (q : Option (List ℕ))
     → ((o : List ℕ) → q ≡ some o → length o ≤ 6)
     → (r : Found)
-    → r ≡ foundOrder q
+    → r ≡ foundOrder s q
     → r .ok ≡ true
-    → (o : List ℕ) × (q ≡ some o) × (take (r .len) (r .events) ≡ o)
+    → Front s q r
 unfolding foundOrder
-found-front q short r same t =
-    let f = answer-some foundOrder refl (λ o. refl) q r same t in
-    let whole = fits (f .0) (short (f .0) (f .1)) .front-whole in
-    (f .0, f .1, ap (λ (w : Found). take (w .len) (w .events)) (same ∙ ap foundOrder (f .1)) ∙ whole)
+found-front s q short r same t =
+    let f = answer-some (foundOrder s) refl (λ o. refl) q r same t in
+    let o = f .0 in
+    let le = short o (f .1) in
+    let is = same ∙ ap (foundOrder s) (f .1) in
+    let len = opens-length s o in
+    let marks : take (length o) (tabulate 6 0 (λ i. getD (opens s o) i false)) ≡ opens s o =
+    ap (λ (n : ℕ). take n (tabulate 6 0 (λ i. getD (opens s o) i false))) (sym len) ∙ fits false (opens s o) (omega arith) .front-whole in
+    record {
+      order = o;
+      is = f .1;
+      does = ap (λ (w : Found). settleAll s (take (w .len) (w .events)) (take (w .len) (w .opened))) is
+          ∙ ap₂ (settleAll s) (fits 0 o le .front-whole) marks
+          ∙ settle-opens s o;
+    }
 
 -- the chosen one does
-pub order-found : (s : State) (e : ℕ) (r : Found)
-    → r ≡ foundOrder (chosen s e)
-    → r .ok ≡ true
-    → (o : List ℕ) × (chosen s e ≡ some o) × (take (r .len) (r .events) ≡ o)
-order-found s e = found-front (chosen s e) (chosen-short s e)
+pub order-found : (s : State) (e : ℕ) (r : Found) → r ≡ foundOrder s (chosen s e) → r .ok ≡ true → Front s (chosen s e) r
+order-found s e = found-front s (chosen s e) (chosen-short s e)
 
 -- where a search found none, there is no chosen order
-pub order-missing : (s : State) (e : ℕ) (r : Found) → r ≡ foundOrder (chosen s e) → r .ok ≡ false → chosen s e ≡ none
+pub order-missing : (s : State) (e : ℕ) (r : Found) → r ≡ foundOrder s (chosen s e) → r .ok ≡ false → chosen s e ≡ none
 unfolding foundOrder
-order-missing s e = answer-none foundOrder refl (λ o. refl) (chosen s e)
+order-missing s e = answer-none (foundOrder s) refl (λ o. refl) (chosen s e)
 
--- an event of an order stands in the array that holds the order
-front-same : (n : ℕ) (l : List ℕ) (i : ℕ) → i < length (take n l) → getD (take n l) i 0 ≡ getD l i 0
-front-same zero l i lt = absurd (omega arith)
-front-same (suc n) [] i lt = refl
-front-same (suc n) (x ∷ l) zero lt = refl
-front-same (suc n) (x ∷ l) (suc i) lt = front-same n l i (omega arith)
+-- the first n of a row stand where they stood
+front-same : {A : Type 0} (blank : A) (n : ℕ) (l : List A) (i : ℕ) → i < length (take n l) → getD (take n l) i blank ≡ getD l i blank
+front-same blank zero l i lt = absurd (omega arith)
+front-same blank (suc n) [] i lt = refl
+front-same blank (suc n) (x ∷ l) zero lt = refl
+front-same blank (suc n) (x ∷ l) (suc i) lt = front-same blank n l i (omega arith)
 
--- how many events the first n of an array of six are
-pub front-some : (l : List ℕ) (n : ℕ) → length l ≡ 6 → n < 6 → length (take n l) ≡ n
+-- how many the first n of an array of six are
+pub front-some : {A : Type 0} (l : List A) (n : ℕ) → length l ≡ 6 → n < 6 → length (take n l) ≡ n
 front-some l n six lt = length-take-le n l (omega arith)
 
-pub front-whole : (l : List ℕ) (n : ℕ) → length l ≡ 6 → 6 ≤ n → length (take n l) ≡ 6
+pub front-whole : {A : Type 0} (l : List A) (n : ℕ) → length l ≡ 6 → 6 ≤ n → length (take n l) ≡ 6
 front-whole l n six ge = ap length (take-all n l (omega arith)) ∙ six
 
--- a loop over an order: its event i is done, and at its end nothing is left to do
-module _ (l : List ℕ) (n i : ℕ) (s : State) where
-  pub do-next : i < length (take n l)
-      → doAll s (drop i (take n l)) ≡ doAll (doOne s (getD l i 0)) (drop (i + 1) (take n l))
-  unfolding doAll
-  do-next lt = rw (drop-cons (take n l) i 0 lt, front-same n l i lt, add-one i)
+-- a loop over an order and its marks: event i is settled by its mark, and at the end nothing is left
+module _ (l : List ℕ) (m : List Bool) (n i : ℕ) (s : State) where
+  pub settle-next : i < length (take n l)
+      → i < length (take n m)
+      → settleAll s (drop i (take n l)) (drop i (take n m))
+      ≡ settleAll (settleAs (doneAs (getD m i false)) s (getD l i 0)) (drop (i + 1) (take n l)) (drop (i + 1) (take n m))
+  unfolding settleAll
+  settle-next lt mt =
+      rw (drop-cons (take n l) i 0 lt, front-same 0 n l i lt, drop-cons (take n m) i false mt, front-same false n m i mt, add-one i)
 
-  pub do-end : length (take n l) ≤ i → doAll s (drop i (take n l)) ≡ s
-  unfolding doAll
-  do-end le = rw (drop-of-length-le (take n l) {i = i} le)
+  pub settle-end : length (take n l) ≤ i → settleAll s (drop i (take n l)) (drop i (take n m)) ≡ s
+  unfolding settleAll
+  settle-end le = rw (drop-of-length-le (take n l) {i = i} le)
 
 -- what a view says of a declared event's being held
 pub held-seen : (s : State) (v : View)
@@ -207,17 +231,17 @@ module _ (s : State) (e : ℕ) (before : Rest (eventCount (s .plan)) (doing s) e
   pub held-found : e < eventCount (s .plan)
       → isHeld (fateOf s e) ≡ true
       → (r : Found)
-      → r ≡ foundOrder (chosen s e)
+      → r ≡ foundOrder s (chosen s e)
       → r .ok ≡ true
-      → r ≡ foundOrder (toDo s)
+      → r ≡ foundOrder s (toDo s)
   unfolding toDo
   held-found lt h r same t =
       let f = order-found s e r same t in
-      same ∙ ap foundOrder (f .1 ∙ sym (before ∙ first-here (eventCount (s .plan)) e (doing s) (f .0) lt (doing-some s e (f .0) h (f .1))))
+      same ∙ ap (foundOrder s) (f .is ∙ sym (before ∙ first-here (eventCount (s .plan)) e (doing s) (f .order) lt (doing-some s e (f .order) h (f .is))))
 
-  pub held-none : eventCount (s .plan) ≤ e → noOrder ≡ foundOrder (toDo s)
+  pub held-none : eventCount (s .plan) ≤ e → noOrder ≡ foundOrder s (toDo s)
   unfolding toDo foundOrder
-  held-none ge = ap foundOrder (sym (before ∙ first-end (eventCount (s .plan)) e (doing s) ge))
+  held-none ge = ap (foundOrder s) (sym (before ∙ first-end (eventCount (s .plan)) e (doing s) ge))
 
 -- a turn of settling
 module _ (s : State) where
@@ -249,14 +273,14 @@ module _ (s : State) where
         go none is = is
         go (some d) is = absurd (n (omega (arith, refused-low d is, same ∙ ap orSixteen is)))
 
-    module _ (n : e < 16 → ⊥) (r : Found) (found : r ≡ foundOrder (toDo s)) where
-      pub turn-does : r .ok ≡ true → settleOnce s ≡ some (doAll s (take (r .len) (r .events)))
+    module _ (n : e < 16 → ⊥) (r : Found) (found : r ≡ foundOrder s (toDo s)) where
+      pub turn-does : r .ok ≡ true → settleOnce s ≡ some (settleAll s (take (r .len) (r .events)) (take (r .len) (r .opened)))
       unfolding settleOnce
-      turn-does t = let f = found-front (toDo s) to-do-short r found t in rw (unrefused n, f .1, f .2, settleOnce)
+      turn-does t = let f = found-front s (toDo s) to-do-short r found t in rw (unrefused n, f .is, f .does, settleOnce)
 
       pub turn-rests : r .ok ≡ false → settleOnce s ≡ none
       unfolding settleOnce foundOrder
-      turn-rests t = rw (unrefused n, answer-none foundOrder refl (λ o. refl) (toDo s) r found t, settleOnce)
+      turn-rests t = rw (unrefused n, answer-none (foundOrder s) refl (λ o. refl) (toDo s) r found t, settleOnce)
 
 -- whether a turn was made, and the state after it
 module _ (s : State) where

@@ -8,17 +8,17 @@ use mathlib.Core.Logic.{inl, inr}
 use mathlib.Core.Option.{Option, none, some, Option·map}
 use mathlib.Core.Path.{_≡_, refl, sym, _∙_, ap, subst}
 use lib.ListN.{length}
-use Rattle.scheduler.specs.Prelude.{Fate, Held, Done, Refused, State}
+use Rattle.scheduler.specs.Prelude.{Fate, Held, Refused, State}
 use Rattle.plan.specs.Base.{countBelow, when, lowest}
 use Rattle.plan.specs.Plans.{eventCount}
 use Rattle.scheduler.specs.State.{fateOf, settleAs, Sized}
 use Rattle.plan.specs.Fates.{isHeld, isSettled}
 use Rattle.scheduler.specs.Rules.{barred}
-use Rattle.scheduler.specs.Orders.{mayDo, doOne, Runs, Viable, First, chosen, doAll}
+use Rattle.scheduler.specs.Orders.{mayDo, fateAtTurn, doOne, Runs, Viable, First, chosen, doAll}
 use Rattle.scheduler.specs.Calls.{Lowest, IsHeld, HeldBarred, HeldViable, Turn, refuses, does, AtRest, Turns, stay, turn, Settles, toRefuse, toDo, settleOnce, settleUpTo, settle, refuseHeld, finish, Refusing, nothing-held, refuse-next, Finishes}
 use Rattle.plan.proofs.Tests.{either, and-left, and-right, and-both, clash, first-none, first-some, when-none, when-some, some-none, count-le, count-more}
 use Rattle.plan.proofs.Fates.{held-is}
-use Rattle.scheduler.proofs.Laws.{sized-one, fate-past, plan-settle, fate-settle-same, fate-settle-other, sized-settle}
+use Rattle.scheduler.proofs.Laws.{turn-settled, sized-one, fate-past, plan-settle, fate-settle-same, fate-settle-other, sized-settle}
 use Rattle.scheduler.proofs.Branches.{upTo-none, upTo-some, lowestHeld, refuse-none, refuse-some}
 use Rattle.scheduler.proofs.Searching.{ready-unsettled, ready-bound, plan-doAll, sized-doAll, run-declared, mem-long, chosen-none, chosen-first, first-chosen}
 
@@ -208,7 +208,8 @@ unsettled-settle x s e fin z lt un =
 
 -- one event of an order done leaves one fewer
 pub unsettled-one : (s : State) (c : ℕ) → Sized s → mayDo s c ≡ true → unsettled s ≡ suc (unsettled (doOne s c))
-unsettled-one s c z m = unsettled-settle Done s c refl z (ready-bound s c m) (ready-unsettled s c m)
+unsettled-one s c z m =
+    unsettled-settle (fateAtTurn s c) s c (turn-settled s c) z (ready-bound s c m) (ready-unsettled s c m)
 
 pub unsettled-doAll : (s : State) → Sized s → (o : List ℕ) → Runs s o → unsettled s ≡ length o + unsettled (doAll s o)
 unfolding doAll

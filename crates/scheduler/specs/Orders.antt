@@ -1,6 +1,7 @@
 -- Viable orders, and the chosen one.
-use Rattle.scheduler.specs.Prelude.{ℕ, zero, suc, _≤_, _<_, Bool, true, false, not, _&&_, _||_, List, [], _∷_, List·Memᴰ, _⊎_, Option, none, some, Option·map, _≡_, eqb, length, getD, replicate, Done, State}
+use Rattle.scheduler.specs.Prelude.{ℕ, zero, suc, _≤_, _<_, Bool, true, false, not, _&&_, _||_, List, [], _∷_, List·Memᴰ, _⊎_, Option, none, some, Option·map, _≡_, eqb, length, getD, replicate, Fate, State}
 use Rattle.plan.specs.Base.{firstOf, when, anyBelow, tabulate}
+use Rattle.plan.specs.Fates.{isOpen, doneAs}
 use Rattle.plan.specs.Plans.{eventCount}
 use Rattle.plan.specs.Rules.{ready}
 use Rattle.orders.specs.Sequences.{Ahead}
@@ -12,9 +13,13 @@ use Rattle.scheduler.specs.Rules.{forbidden, owing}
 unfoldable pub mayDo : State → ℕ → Bool
 mayDo s c = ready (s .plan) (fateOf s) c && not (forbidden s c)
 
+-- how an order settles an event: forced if it is open when its turn comes, else done (7.12)
+abbrev pub fateAtTurn : State → ℕ → Fate
+fateAtTurn s c = doneAs (isOpen (fateOf s c))
+
 -- one event of an order done (7.1)
 abbrev pub doOne : State → ℕ → State
-doOne s c = settleAs Done s c
+doOne s c = settleAs (fateAtTurn s c) s c
 
 -- the events of an order done, one after the other (7.1)
 unfoldable pub doAll : State → List ℕ → State
@@ -56,13 +61,24 @@ orderOf candidate (suc k) s e had = firstOf (eventCount (s .plan)) 0 (λ c.
 unfoldable pub chosen : State → ℕ → Option (List ℕ)
 chosen s e = firstOf 6 1 (λ k. orderOf (λ c. true) k s e false)
 
--- an order as code hands it over: its events from the front, zeros after them, and its length; and no order (7.5)
-abbrev pub noOrder : Found
-noOrder = record { ok = false; events = replicate 6 0; len = 0 }
+-- which events of an order are open when their turn comes (7.12)
+unfoldable pub opens : State → List ℕ → List Bool
+opens s [] = []
+opens s (c ∷ o) = isOpen (fateOf s c) ∷ opens (doOne s c) o
 
-unfoldable pub foundOrder : Option (List ℕ) → Found
-foundOrder none = noOrder
-foundOrder (some o) = record { ok = true; events = tabulate 6 0 (λ i. getD o i 0); len = length o }
+-- an order as code hands it over: its events from the front, zeros after them, which of them were open, and its length;
+-- and no order (7.5, 7.12)
+abbrev pub noOrder : Found
+noOrder = record { ok = false; events = replicate 6 0; opened = replicate 6 false; len = 0 }
+
+unfoldable pub foundOrder : State → Option (List ℕ) → Found
+foundOrder s none = noOrder
+foundOrder s (some o) = record {
+  ok = true;
+  events = tabulate 6 0 (λ i. getD o i 0);
+  opened = tabulate 6 0 (λ i. getD (opens s o) i false);
+  len = length o;
+}
 
 -- some order of k events contains e (or had it already), and no rule owes after it (7.3)
 unfoldable pub someOrder : ℕ → State → ℕ → Bool → Bool

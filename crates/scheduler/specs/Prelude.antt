@@ -9,7 +9,7 @@ pub use mathlib.Core.Path.{_≡_}
 pub use lib.Dec.{eqb, ltb, leb}
 pub use lib.ListN.{length, getD, take, drop, set, replicate}
 pub use Rattle.plan.specs.declared.fate.Fate.{Fate}
-pub use Rattle.plan.specs.declared.fate.Fate.the-variants.{Open, Held, Done, Refused, Lapsed}
+pub use Rattle.plan.specs.declared.fate.Fate.the-variants.{Open, Held, Done, Refused, Lapsed, Forced}
 pub use Rattle.plan.specs.declared.fate.Standing.{Standing}
 pub use Rattle.plan.specs.declared.event.Event.{Event}
 pub use Rattle.plan.specs.declared.rule.Rule.{Rule}

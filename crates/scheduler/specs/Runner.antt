@@ -1,5 +1,5 @@
 -- The run of a list on a sheet, and the report.
-use Rattle.scheduler.specs.Prelude.{ℕ, zero, suc, _+_, _/_, _%_, true, false, List, [], _∷_, _++_, ltb, Fate, Open, Held, Done, Refused, Lapsed, Entry, State, Admitted, Faulty, Reading, Outcome}
+use Rattle.scheduler.specs.Prelude.{ℕ, zero, suc, _+_, _/_, _%_, true, false, List, [], _∷_, _++_, ltb, Fate, Open, Held, Done, Refused, Lapsed, Forced, Entry, State, Admitted, Faulty, Reading, Outcome}
 use Rattle.plan.specs.Base.{oneIf, countBelow}
 use Rattle.plan.specs.Fates.{isHeld}
 use Rattle.plan.specs.Plans.{eventCount, ruleCount}
@@ -52,6 +52,7 @@ fateWord Held = 104 ∷ 101 ∷ 108 ∷ 100 ∷ []  -- held
 fateWord Done = 100 ∷ 111 ∷ 110 ∷ 101 ∷ []  -- done
 fateWord Refused = 114 ∷ 101 ∷ 102 ∷ 117 ∷ 115 ∷ 101 ∷ 100 ∷ []  -- refused
 fateWord Lapsed = 108 ∷ 97 ∷ 112 ∷ 115 ∷ 101 ∷ 100 ∷ []  -- lapsed
+fateWord Forced = 102 ∷ 111 ∷ 114 ∷ 99 ∷ 101 ∷ 100 ∷ []  -- forced
 
 abbrev pub eventsWord : List ℕ
 eventsWord = 101 ∷ 118 ∷ 101 ∷ 110 ∷ 116 ∷ 115 ∷ []  -- events

@@ -214,7 +214,8 @@ impl State {
         let found = self.find_order(event);
         if found.ok {
             let order = found.events;
-            return self.do_events(order, found.len);
+            let opened = found.opened;
+            return self.do_events(order, opened, found.len);
         }
         let mut attributes: u8 = 0;
         if event < 16 {

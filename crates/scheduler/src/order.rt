@@ -10,27 +10,30 @@ use members::set::without;
 use members::view::View;
 use members::view::view_after;
 use members::view::view_of;
-use plan::fate::Fate;
+use plan::fate::done_as;
+use plan::fate::is_open;
 ghost use mathlib.Core.Path.{_≡_};
 ghost use Prim.Native.Nat.{_+_, _≤_};
 ghost use Rattle.members.specs.Sets.{inSet, Shows};
 ghost use Rattle.orders.specs.Stepwise.{stepwise};
 ghost use Rattle.scheduler.specs.State.{fateOf};
 ghost use Rattle.scheduler.specs.Rules.{stands};
-ghost use Rattle.scheduler.specs.Orders.{doOne, chosen, foundOrder};
-ghost use Rattle.scheduler.specs.Internal.Placed.{foundFrom};
+ghost use Rattle.scheduler.specs.Orders.{chosen, foundOrder};
+ghost use Rattle.scheduler.specs.Internal.Placed.{blankOrder, foundFrom};
 
-// What a search for an order finds: the order's events from the front, zeros after them, and its length.
+// What a search for an order finds: the order's events from the front, zeros after them, which of them were open when
+// their turn came, and the order's length.
 pub struct Found {
     pub ok: bool,
     pub events: [u8; 6],
+    pub opened: [bool; 6],
     pub len: u8,
 }
 
 impl State {
     // The chosen order for the event (7.5).
     pub fn find_order(self, event: u8) -> Found
-        ensures { λ r. ⌜ r ≡ foundOrder (chosen self event) ⌝ }
+        ensures { λ r. ⌜ r ≡ foundOrder self (chosen self event) ⌝ }
     {
         let view = self.view();
         let plan = self.plan;
@@ -40,19 +43,14 @@ impl State {
         if members.ok {
             return self.find_among(view, members.set);
         }
-        let blank = [0; 6];
-        Found {
-            ok: false,
-            events: blank,
-            len: 0,
-        }
+        blank_order(false, 0)
     }
 
     // The order of the members. Held events first (7.9): an order in which no open event is forced is made of held members
     // alone, and there is one only where all are held; else the others are forced.
     pub(crate) fn find_among(self, view: View, members: u16) -> Found
         requires { ⌜ Shows (self .plan) (fateOf self) view ⌝ }
-        ensures { λ r. ⌜ r ≡ foundFrom 0 (stepwise (self .plan) (stands self) 6 (fateOf self) (inSet members)) ⌝ }
+        ensures { λ r. ⌜ r ≡ foundFrom self 0 (stepwise (self .plan) (stands self) 6 (fateOf self) (inSet members)) ⌝ }
     {
         let held = common(members, view.held);
         if held == members {
@@ -70,13 +68,6 @@ impl State {
         let standings = self.standings;
         view_of(events, plan.event_count, standings)
     }
-
-    // One event of an order done.
-    pub(crate) fn do_one(self, event: u8) -> State
-        ensures { λ r. ⌜ r ≡ doOne self event ⌝ }
-    {
-        self.settle_as(Fate::Done, event)
-    }
 }
 
 // The events that are left, always the lowest that no other of them has to come before; none if there is no such event,
@@ -84,21 +75,12 @@ impl State {
 // the state's. After the last event the search need not call itself.
 fn search(s: State, view: View, left: u16, at: u8, places: u8) -> Found
     requires { ⌜ ((at + places ≤ 6) × Shows (s .plan) (fateOf s) view) ⌝ }
-    ensures { λ r. ⌜ r ≡ foundFrom at (stepwise (s .plan) (stands s) places (fateOf s) (inSet left)) ⌝ }
+    ensures { λ r. ⌜ r ≡ foundFrom s at (stepwise (s .plan) (stands s) places (fateOf s) (inSet left)) ⌝ }
 {
-    let blank = [0; 6];
     if lowest_of(left) == 16 {
-        return Found {
-            ok: true,
-            events: blank,
-            len: at,
-        };
+        return blank_order(true, at);
     }
-    let none = Found {
-        ok: false,
-        events: blank,
-        len: 0,
-    };
+    let none = blank_order(false, 0);
     if places == 0 {
         return none;
     }
@@ -107,22 +89,39 @@ fn search(s: State, view: View, left: u16, at: u8, places: u8) -> Found
     let broken = s.broken;
     let x = lowest_of(without(left, blocked_in(rules, broken, plan.rule_count, view, left)));
     if x < 16 {
+        let standings = s.standings;
+        let standing = standings[x as usize];
+        let fate = standing.fate;
+        let opened = is_open(fate);
         let rest = without(left, with_if(0, x, true));
         if lowest_of(rest) == 16 {
-            let mut last = Found {
-                ok: true,
-                events: blank,
-                len: at + 1,
-            };
+            let mut last = blank_order(true, at + 1);
             last.events[at as usize] = x;
+            last.opened[at as usize] = opened;
             return last;
         }
-        let r = search(s.do_one(x), view_after(view, x), rest, at + 1, places - 1);
+        let next = s.settle_as(done_as(opened), x);
+        let r = search(next, view_after(view, x), rest, at + 1, places - 1);
         if r.ok {
             let mut q = r;
             q.events[at as usize] = x;
+            q.opened[at as usize] = opened;
             return q;
         }
     }
     none
+}
+
+// No event placed yet.
+pub(crate) fn blank_order(ok: bool, len: u8) -> Found
+    ensures { λ r. ⌜ r ≡ blankOrder ok len ⌝ }
+{
+    let events = [0; 6];
+    let opened = [false; 6];
+    Found {
+        ok,
+        events,
+        opened,
+        len,
+    }
 }

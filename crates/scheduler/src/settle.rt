@@ -1,5 +1,6 @@
 // Settling.
 use super::order::Found;
+use super::order::blank_order;
 use super::state::State;
 use members::blocked::blocked_in;
 use members::closed::close_set;
@@ -49,7 +50,8 @@ impl State {
                     return next;
                 }
                 let events = found.events;
-                next = next.do_events(events, found.len);
+                let opened = found.opened;
+                next = next.do_events(events, opened, found.len);
             }
             view = next.view();
             if lowest_of(view.held) == 16 {
@@ -96,7 +98,7 @@ impl State {
     // counts no more as able in this turn.
     fn find_held(self, view: View) -> Found
         requires { ⌜ Shows (self .plan) (fateOf self) view ⌝ }
-        ensures { λ r. ⌜ r ≡ foundOrder (toDo self) ⌝ }
+        ensures { λ r. ⌜ r ≡ foundOrder self (toDo self) ⌝ }
     {
         let plan = self.plan;
         let rules = plan.rules;
@@ -118,11 +120,6 @@ impl State {
             }
             e += 1;
         }
-        let blank = [0; 6];
-        Found {
-            ok: false,
-            events: blank,
-            len: 0,
-        }
+        blank_order(false, 0)
     }
 }

@@ -1,12 +1,13 @@
 // The state of a plan under way, and its four writers.
 use plan::fate::Fate;
 use plan::fate::Standing;
+use plan::fate::done_as;
 use plan::history::Entry;
 use plan::plan::Plan;
 ghost use mathlib.Core.Path.{_≡_};
 ghost use lib.ListN.{take};
 ghost use Rattle.scheduler.specs.State.{hold, settleAs, shut, breakRule};
-ghost use Rattle.scheduler.specs.Orders.{doAll};
+ghost use Rattle.scheduler.specs.Internal.Marked.{settleAll};
 
 // A plan and what has happened (5.4).
 pub struct State {
@@ -54,24 +55,23 @@ impl State {
         next
     }
 
-    // The events of an order done one after the other, at most six: each is settled as done, in place.
-    pub(crate) fn do_events(self, events: [u8; 6], len: u8) -> State
-        ensures { λ r. ⌜ r ≡ doAll self (take len events) ⌝ }
+    // The events of an order done one after the other, at most six: each is settled in place, forced if the search found it
+    // open and else done.
+    pub(crate) fn do_events(self, events: [u8; 6], opened: [bool; 6], len: u8) -> State
+        ensures { λ r. ⌜ r ≡ settleAll self (take len events) (take len opened) ⌝ }
     {
         let n = if len < 6 { len } else { 6 };
         let mut next = self;
         let mut i: u8 = 0;
         while i < n {
             let event = events[i as usize];
+            let fate = done_as(opened[i as usize]);
             let lines = next.history_len;
             if event < 16 {
-                next.standings[event as usize] = Standing { fate: Fate::Done };
+                next.standings[event as usize] = Standing { fate };
             }
             if lines < 16 {
-                next.history[lines as usize] = Entry {
-                    event,
-                    fate: Fate::Done,
-                };
+                next.history[lines as usize] = Entry { event, fate };
                 next.history_len = lines + 1;
             }
             i += 1;

@@ -12,7 +12,7 @@ use mathlib.Core.Path.{_≡_, refl, sym, _∙_, ap, subst}
 use lib.Dec.{eqb, ltb, leb}
 use lib.ListN.{length}
 use lib.Seq.{length-take-le}
-use Rattle.theory.proofs.Types.{Fate, Open, Held, Done, Refused, Lapsed, Rule, Order, Need, Conditional, Plan, Entry, State, CallFault, Incoherent, TurnedDown, Reply, Call, Submit, Close, Finish}
+use Rattle.theory.proofs.Types.{Fate, Open, Held, Done, Refused, Lapsed, Forced, Rule, Order, Need, Conditional, Plan, Entry, State, CallFault, Incoherent, TurnedDown, Reply, Call, Submit, Close, Finish}
 use Rattle.plan.specs.Base.{allBelow, oneIf, countBelow}
 use Rattle.plan.specs.Plans.{eventCount, ruleCount, stepOf, ruleAt, delayable}
 use Rattle.scheduler.specs.State.{fateOf, brokenAt, closedAt, lineCount, lines, Sized}
@@ -96,6 +96,7 @@ paid-of true Held h = refl
 paid-of true Done h = refl
 paid-of true Refused h = sym h
 paid-of true Lapsed h = sym h
+paid-of true Forced h = refl
 
 -- what number 12's test says of a state's counts, events and rules
 module _ (s : State) (h : coherent s ≡ true) where

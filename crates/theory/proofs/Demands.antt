@@ -10,7 +10,7 @@ use mathlib.Core.Option.{none, some}
 use mathlib.Core.Path.{_≡_, refl, sym, _∙_, ap, subst}
 use lib.Dec.{eqb}
 use lib.ListN.{length, length-replicate}
-use Rattle.theory.proofs.Types.{Fate, Open, Held, Done, Refused, Lapsed, Rule, Order, Need, Conditional, Plan}
+use Rattle.theory.proofs.Types.{Fate, Open, Held, Done, Refused, Lapsed, Forced, Rule, Order, Need, Conditional, Plan}
 use Rattle.theory.proofs.Types.{Standing, Entry, State, CallFault, Unknown, AlreadyClosed, NotClosed, Reply, Call, Submit, Close, Finish}
 use Rattle.plan.specs.Base.{anyBelow, allBelow, among, thoseBelow}
 use Rattle.plan.specs.Plans.{eventCount, ruleCount, stepOf, ruleAt, hasEvent}
@@ -243,6 +243,7 @@ module _ {p : Plan} {o : Observed} {s : State} (sd : Sound p) (k : ListInvariant
   neither Done a b = refl
   neither Refused a b = refl
   neither Lapsed a b = refl
+  neither Forced a b = refl
 
   has-step : (e : ℕ) → e < eventCount p → hasEvent p (stepOf p e) ≡ true
   unfolding hasEvent
@@ -293,6 +294,7 @@ module _ {p : Plan} {o : Observed} {s : State} (sd : Sound p) (k : ListInvariant
   is-held Done a b = absurd (clash refl b)
   is-held Refused a b = absurd (clash refl b)
   is-held Lapsed a b = absurd (clash refl b)
+  is-held Forced a b = absurd (clash refl b)
 
   -- an event that is not open: nothing changes
   at-same : (e : ℕ) → isOpen (fateOf s e) ≡ false → Step p (shows p o (Submit e) (lines s)) s s

@@ -10,16 +10,16 @@ use mathlib.Core.Option.{Option, none, some}
 use mathlib.Core.Path.{_≡_, refl, sym, _∙_, ap, subst}
 use lib.Dec.{eqb}
 use lib.ListN.{getD}
-use Rattle.theory.proofs.Types.{Fate, Open, Held, Done, Refused, Lapsed, Plan, Entry, State}
+use Rattle.theory.proofs.Types.{Fate, Open, Held, Refused, Lapsed, Plan, Entry, State}
 use Rattle.plan.specs.Plans.{eventCount, stepOf, delayable}
 use Rattle.scheduler.specs.State.{fateOf, brokenAt, closedAt, lines, settleAs, shut, Sized}
 use Rattle.plan.specs.Histories.{blankEntry, fateIf}
 use Rattle.plan.specs.Fates.{isOpen, isDone, isGone, isSettled}
-use Rattle.scheduler.specs.Orders.{doOne, Runs, Viable, doAll}
+use Rattle.scheduler.specs.Orders.{fateAtTurn, doOne, Runs, Viable, doAll}
 use Rattle.scheduler.specs.Calls.{Turn, refuses, does, Turns, stay, turn, Settles, settleOnce, settle, lapse, closeStep, Refusing, nothing-held, refuse-next, finish}
 use Rattle.plan.proofs.Tests.{clash, either, and-left, and-both}
 use Rattle.plan.proofs.Fates.{open-is}
-use Rattle.scheduler.proofs.Laws.{fate-settle-other, closed-settle, broken-settle, plan-shut, fate-shut, broken-shut, history-shut, len-shut, lines-shut, closed-shut-other, sized-shut}
+use Rattle.scheduler.proofs.Laws.{turn-settled, fate-settle-other, closed-settle, broken-settle, plan-shut, fate-shut, broken-shut, history-shut, len-shut, lines-shut, closed-shut-other, sized-shut}
 use Rattle.scheduler.proofs.Branches.{lapse-yes, lapse-no}
 use Rattle.scheduler.proofs.Searching.{ready-unsettled}
 use Rattle.scheduler.proofs.Settling.{once-some, rest-none, settle-turns, settle-rest, finish-finishes}
@@ -137,13 +137,13 @@ do-run {p} sd s k w [] r = record { listing = k; obeyed = w; quiet = quiet-of (k
 do-run {p} sd s k w (c ∷ o) r =
     let lt : c < eventCount p = omega (arith, r .0, same-events (k .shape)) in
     let un = ready-unsettled s c (r .1) in
-    let b = listing-settle Done c refl k lt un in
+    let b = listing-settle (fateAtTurn s c) c (turn-settled s c) k lt un in
     let z = do-run sd (doOne s c) b (obeyed-do sd c k lt (r .1) w) o (r .2) in
     record {
       listing = z .listing;
       obeyed = z .obeyed;
       quiet = z .quiet;
-      later = later-trans (later-settle Done c refl k lt un (strict-do sd c k lt (r .1))) (z .later);
+      later = later-trans (later-settle (fateAtTurn s c) c (turn-settled s c) k lt un (strict-do sd c k lt (r .1))) (z .later);
     }
 
 -- a held event is refused, or an open one lapses

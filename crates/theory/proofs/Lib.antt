@@ -12,4 +12,7 @@ pub mod Coherence
 pub mod Observation
 pub mod HeldFirst
 pub mod Demands
+pub mod Marks
+pub mod MarkedCalls
+pub mod Forcing
 pub mod Worthless

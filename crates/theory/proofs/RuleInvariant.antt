@@ -9,7 +9,7 @@ use mathlib.Core.List.{List, [], _∷_, _++_}
 use mathlib.Core.Logic.{inl, inr}
 use mathlib.Core.Path.{_≡_, refl, sym, _∙_, ap}
 use lib.Dec.{eqb}
-use Rattle.theory.proofs.Types.{Fate, Open, Held, Done, Refused, Lapsed, Rule, Order, Need, Conditional, Plan, Entry, State}
+use Rattle.theory.proofs.Types.{Fate, Open, Held, Done, Refused, Lapsed, Forced, Rule, Order, Need, Conditional, Plan, Entry, State}
 use Rattle.plan.specs.Base.{anyBelow}
 use Rattle.plan.specs.Plans.{eventCount, ruleCount, ruleAt, delayable}
 use Rattle.scheduler.specs.State.{fateOf, brokenAt, lines, settleAs}
@@ -17,12 +17,12 @@ use Rattle.plan.specs.Fates.{isDone, isGone, isSettled}
 use Rattle.plan.specs.Rules.{named, bars, makesWait, forbids, owes, ready}
 use Rattle.plan.specs.Histories.{doneIn, doneInTurn}
 use Rattle.scheduler.specs.Rules.{forbidden, owing}
-use Rattle.scheduler.specs.Orders.{doOne, mayDo}
+use Rattle.scheduler.specs.Orders.{fateAtTurn, doOne, mayDo}
 use Rattle.scheduler.specs.Demand.{unbreakable}
 use Rattle.plan.proofs.Tests.{clash, either, or-left, or-right, or-both, and-right, and-both, and-not, any-false}
 use Rattle.plan.proofs.Lines.{turn-append, done-settled-if}
 use Rattle.plan.proofs.RuleReads.{two-named, ThreeNamed, triple-named}
-use Rattle.scheduler.proofs.Laws.{fate-settle-other, broken-settle}
+use Rattle.scheduler.proofs.Laws.{turn-done, turn-settled, fate-settle-other, broken-settle}
 use Rattle.scheduler.proofs.Searching.{ready-unsettled}
 use Rattle.theory.proofs.SoundPlans.{Sound, rule-named}
 use Rattle.theory.proofs.HistoryInvariant.{Shape, HistoryListed, fate-then, lines-then}
@@ -250,24 +250,41 @@ module _ {p : Plan} {s : State} (x : Fate) (e : ℕ) (fin : isSettled x ≡ true
     | no ne ↦ rw (fate-settle-other x s e j ne, ne-eqb e j (λ r. ne (sym r)))
   ]
 
+-- what is done is not gone
+not-done : (x : Fate) → isDone x ≡ true → isGone x ≡ false
+not-done Open h = refl
+not-done Held h = refl
+not-done Done h = refl
+not-done Refused h = sym h
+not-done Lapsed h = sym h
+not-done Forced h = refl
+
 -- doing an event that no rule bars keeps the rules obeyed, also if rules are recorded as broken at the same time
-module _ {p : Plan} {s : State} (sd : Sound p) (e : ℕ) (k : HistoryListed p s) (w : RulesObeyed p s)
-    (lt : e < eventCount p) (un : isSettled (fateOf s e) ≡ false) where
+module _ {p : Plan} {s : State} (sd : Sound p) (x : Fate) (is-done : isDone x ≡ true) (e : ℕ) (k : HistoryListed p s)
+    (w : RulesObeyed p s) (lt : e < eventCount p) (un : isSettled (fateOf s e) ≡ false) where
+  is-settled : isSettled x ≡ true
+  is-settled = rw is-done
+
+  is-kept : isGone x ≡ false
+  is-kept = not-done x is-done
+
   pub paid-do : (r : Rule)
       → unpaid s r ≡ false
       → bars (s .plan) (fateOf s) r e ≡ false
       → ((a b c : ℕ) → r ≡ Conditional a b c → eqb a b ≡ false)
-      → unpaid (settleAs Done s e) r ≡ false
+      → unpaid (settleAs x s e) r ≡ false
   unfolding unpaid bars
   paid-do (Order a b) u v z = refl
   paid-do (Need a b) u v z =
-      rw (done-then Done e refl k lt un a, gone-then Done e refl k lt un b, and-true, and-false)
+      rw (done-then x e is-settled k lt un a, gone-then x e is-settled k lt un b, is-done, is-kept, and-true, and-false)
       (joined (eqb e a) (isDone (fateOf s a)) (isGone (fateOf s b)) v u)
   paid-do (Conditional a b c) u v z =
       rw (
-        done-then Done e refl k lt un a,
-        done-then Done e refl k lt un b,
-        gone-then Done e refl k lt un c,
+        done-then x e is-settled k lt un a,
+        done-then x e is-settled k lt un b,
+        gone-then x e is-settled k lt un c,
+        is-done,
+        is-kept,
         and-true (eqb e a),
         and-true (eqb e b),
         and-false (eqb e c),
@@ -280,17 +297,17 @@ module _ {p : Plan} {s : State} (sd : Sound p) (e : ℕ) (k : HistoryListed p s)
       → brokenAt s i ≡ false
       → ruleAt p i ≡ Order a b
       → bars (s .plan) (fateOf s) (ruleAt p i) e ≡ false
-      → doneInTurn (lines (settleAs Done s e)) b a ≡ false
+      → doneInTurn (lines (settleAs x s e)) b a ≡ false
   unfolding bars
   turn-do i a b l n r v =
-      rw (lines-then Done e refl k lt un)
-      (turn-kept (lines s) (record { event = e; fate = Done }) b a (w .turn i a b l n r)
-      (λ d. rw (sym (done-listed k b (order-named sd i a b l r .1)) ∙ d) at (rw r at v)))
+      rw (lines-then x e is-settled k lt un)
+      (turn-kept (lines s) (record { event = e; fate = x }) b a (w .turn i a b l n r)
+      (λ d. rw is-done (rw (sym (done-listed k b (order-named sd i a b l r .1)) ∙ d) at (rw r at v))))
 
   -- in the state t, which differs from the one with e done in recorded rules alone
   pub obeyed-done : (t : State)
-      → lines t ≡ lines (settleAs Done s e)
-      → ((r : Rule) → unpaid t r ≡ unpaid (settleAs Done s e) r)
+      → lines t ≡ lines (settleAs x s e)
+      → ((r : Rule) → unpaid t r ≡ unpaid (settleAs x s e) r)
       → ((i : ℕ) → brokenAt t i ≡ false → brokenAt s i ≡ false)
       → NoStanding p t (λ r. bars (s .plan) (fateOf s) r e)
       → RulesObeyed p t
@@ -326,8 +343,8 @@ module _ {p : Plan} {s : State} (sd : Sound p) (e : ℕ) (k : HistoryListed p s)
   pub obeyed-do : RulesObeyed p s → RulesObeyed p (doOne s e)
   obeyed-do w =
       let before : (i : ℕ) → brokenAt (doOne s e) i ≡ false → brokenAt s i ≡ false =
-      λ i n. sym (broken-settle Done s e i) ∙ n in
-      obeyed-done sd e k w lt un (doOne s e) refl (λ r. refl) before (λ i l n. no-bar i l (before i n))
+      λ i n. sym (broken-settle (fateAtTurn s e) s e i) ∙ n in
+      obeyed-done sd (fateAtTurn s e) (turn-done s e) e k w lt un (doOne s e) refl (λ r. refl) before (λ i l n. no-bar i l (before i n))
 
   first-do : Strict p s
       → (i a b : ℕ)
@@ -337,17 +354,17 @@ module _ {p : Plan} {s : State} (sd : Sound p) (e : ℕ) (k : HistoryListed p s)
       → isDone (fateOf (doOne s e) b) ≡ true
       → isSettled (fateOf (doOne s e) a) ≡ true
   unfolding makesWait
-  first-do w i a b l r d h = settled-stays Done e refl k lt un a (elim (ℕ-discrete b e) [
+  first-do w i a b l r d h = settled-stays (fateAtTurn s e) e (turn-settled s e) k lt un a (elim (ℕ-discrete b e) [
     | yes q ↦
         not-false (isSettled (fateOf s a))
         (and-not (eqb e b && delayable (s .plan) b) (not (isSettled (fateOf s a)))
         (rw r at (no-wait i l (order-unbroken w i a b l r)))
         (and-both (eqb e b) (delayable (s .plan) b) (eq-eqb e b (sym q)) (delayable-same (k .shape) b ∙ d)))
-    | no ne ↦ w .first i a b l r d (rw (fate-settle-other Done s e b ne) at h)
+    | no ne ↦ w .first i a b l r d (rw (fate-settle-other (fateAtTurn s e) s e b ne) at h)
   ])
 
   pub strict-do : Strict p s → Strict p (doOne s e)
-  strict-do w = record { first = first-do w; weak = λ i l b. w .weak i l (sym (broken-settle Done s e i) ∙ b) }
+  strict-do w = record { first = first-do w; weak = λ i l b. w .weak i l (sym (broken-settle (fateAtTurn s e) s e i) ∙ b) }
 
 unowed : (d t : Bool) → (d && not t) ≡ false → t ≡ false → d ≡ false
 unowed true t h q = absurd (clash (ap not q) h)
@@ -368,6 +385,7 @@ not-gone Held h = refl
 not-gone Done h = sym h
 not-gone Refused h = refl
 not-gone Lapsed h = refl
+not-gone Forced h = sym h
 
 pub gone-settled : (x : Fate) → isGone x ≡ true → isSettled x ≡ true
 gone-settled Open h = h
@@ -375,6 +393,7 @@ gone-settled Held h = h
 gone-settled Done h = refl
 gone-settled Refused h = refl
 gone-settled Lapsed h = refl
+gone-settled Forced h = refl
 
 -- refusing an event, or letting it lapse, while no rule owes
 module _ {p : Plan} {s : State} (x : Fate) (gx : isGone x ≡ true) (e : ℕ) (k : HistoryListed p s)

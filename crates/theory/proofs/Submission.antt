@@ -17,14 +17,14 @@ use Rattle.scheduler.specs.State.{fateOf, brokenAt, closedAt, lineCount, lines,
 use Rattle.plan.specs.Histories.{blankEntry, fateIf}
 use Rattle.plan.specs.Fates.{isOpen, isHeld, isDone, isGone, isSettled}
 use Rattle.plan.specs.Rules.{enforceable, bars, makesWait, forbids, owes}
-use Rattle.scheduler.specs.Orders.{doOne, Viable, chosen, doAll, hasViable}
+use Rattle.scheduler.specs.Orders.{fateAtTurn, doOne, Viable, chosen, doAll, hasViable}
 use Rattle.scheduler.specs.Rules.{strains}
 use Rattle.scheduler.specs.Calls.{Turn, refuses, does, Turns, stay, turn, settle, breakIf, recordBroken, doAlone, submit}
 use Rattle.scheduler.specs.Demand.{unbreakable, startsDone}
 use Rattle.scheduler.specs.Grounds.{NoViable}
 use Rattle.plan.proofs.Tests.{clash, either, or-left, or-right, and-left, and-right, and-both, and-not}
 use Rattle.plan.proofs.Fates.{open-is}
-use Rattle.scheduler.proofs.Laws.{fate-settle-other, closed-settle, broken-settle, plan-hold, fate-hold-other, closed-hold, broken-hold, lines-hold}
+use Rattle.scheduler.proofs.Laws.{turn-settled, fate-settle-other, closed-settle, broken-settle, plan-hold, fate-hold-other, closed-hold, broken-hold, lines-hold}
 use Rattle.scheduler.proofs.Laws.{plan-break, fate-break, closed-break, history-break, len-break, lines-break, broken-break-same, broken-break-other, sized-break}
 use Rattle.scheduler.proofs.Branches.{decide-order, decide-refuse, decide-alone, submit-delayed, submit-decided}
 use Rattle.scheduler.proofs.Searching.{ready-unsettled, member-settled, chosen-none, chosen-first, viable-has, chosen-none-has}
@@ -199,7 +199,7 @@ module _ {p : Plan} {s : State} (sd : Sound p) (e : ℕ) (k : HistoryListed p s)
       (or-left (forbids (s .plan) (fateOf s) (ruleAt p i) e) (owes (s .plan) (fateOf g) (ruleAt p i)) (calm i l b))
 
   pub obeyed-alone : RulesObeyed p t
-  obeyed-alone = obeyed-done sd e k w lt un t (r .same-lines) unpaid-recorded unbroken no-bar
+  obeyed-alone = obeyed-done sd Done refl e k w lt un t (r .same-lines) unpaid-recorded unbroken no-bar
 
   pub quiet-alone : Quiet p t
   quiet-alone i l b =
@@ -336,9 +336,9 @@ run-adds sd s k w e d [] v n u f = absurd (List·Memᴰ·not-nil (v .contains))
 run-adds {p} sd s k w e d (c ∷ o) v n u f =
     let lt : c < eventCount p = omega (arith, v .runs .0, same-events (k .shape)) in
     let un = ready-unsettled s c (v .runs .1) in
-    let b = listing-settle Done c refl k lt un in
+    let b = listing-settle (fateAtTurn s c) c (turn-settled s c) k lt un in
     let y = do-run sd (doOne s c) b (obeyed-do sd c k lt (v .runs .1) w) o (v .runs .2) in
-    adds-first e (record { event = c; fate = Done }) (lines-then Done c refl k lt un)
+    adds-first e (record { event = c; fate = fateAtTurn s c }) (lines-then (fateAtTurn s c) c (turn-settled s c) k lt un)
     (elim (either (eqb c e)) [
       | inr b ↦ rw b
       | inl b ↦

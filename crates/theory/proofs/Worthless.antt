@@ -14,7 +14,7 @@ use Rattle.plan.specs.Fates.{isDone, isOpen}
 use Rattle.plan.specs.Rules.{owes, soundRule, named, enforceable, soundEvent, bars, makesWait, forbids, ready}
 use Rattle.scheduler.specs.Rules.{barred, forbidden, owing, strains}
 use Rattle.plan.specs.Histories.{anyDone, doneIn, doneInTurn, holds, fatesIn, declaredOnly, sameFates, listedAs}
-use Rattle.scheduler.specs.Orders.{mayDo, doAll, Viable, orderOf, chosen, someOrder, hasViable}
+use Rattle.scheduler.specs.Orders.{mayDo, fateAtTurn, doOne, doAll, Viable, orderOf, chosen, someOrder, hasViable}
 use Rattle.scheduler.specs.Calls.{lapse, toRefuse, toDo, settleOnce, settleUpTo, settle, doAlone, submit}
 use Rattle.plan.specs.Faults.{firstFault}
 use Rattle.scheduler.specs.Coherent.{coherentRule, coherentEvent, coherent}
@@ -26,7 +26,7 @@ use Rattle.scheduler.specs.Lists.{Scheduler, after, scheduler}
 use Rattle.scheduler.specs.Demand.{seen, Observed, nothingYet, anyCall, Holds, observedFate, stateOf, accepted, startsDone, doneAlone, newlyRecorded, observe, observeAll, broken, unbreakable, Keeps}
 use Rattle.scheduler.specs.Grounds.{Ground, by-bar, by-submission, by-finish, Trail, end, held, ordered, alone, refused, shuts, lapsed, Grounded}
 use Rattle.plan.proofs.Tests.{clash, any-none}
-use Rattle.scheduler.proofs.Laws.{plan-hold, plan-settle, sized-hold, sized-settle, fate-hold-same, fate-settle-either}
+use Rattle.scheduler.proofs.Laws.{turn-done, plan-hold, plan-one, sized-hold, sized-one, fate-hold-same, fate-settle-either}
 use Rattle.scheduler.specs.Doing.{Acts, Doing}
 use Rattle.scheduler.proofs.Doing.{settled-fixed, rest-held}
 
@@ -183,11 +183,11 @@ unrefused-done : (s : State) (o : List ℕ) → Unrefused s → Unrefused (doAll
 unfolding doAll
 unrefused-done s [] u = u
 unrefused-done s (e ∷ o) u =
-    unrefused-done (settleAs Done s e) o (record {
-      same-plan = plan-settle Done s e ∙ u .same-plan;
-      sized = sized-settle Done s e (u .sized);
-      not-refused = λ r. elim (fate-settle-either Done s e 0 (u .sized)) [
-        | inl q ↦ let z : _≡_ {A = ℕ} 0 1 = cc in omega arith
+    unrefused-done (doOne s e) o (record {
+      same-plan = plan-one s e ∙ u .same-plan;
+      sized = sized-one s e (u .sized);
+      not-refused = λ r. elim (fate-settle-either (fateAtTurn s e) s e 0 (u .sized)) [
+        | inl q ↦ clash (turn-done s e) (ap isDone (sym q ∙ r))
         | inr q ↦ u .not-refused (sym q ∙ r)
       ];
     })

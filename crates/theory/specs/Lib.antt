@@ -1,2 +1,3 @@
 -- What the theorems say that no function promises.
 pub mod HeldFirst
+pub mod Marks

@@ -17,7 +17,12 @@ returns-4 : tie.Need-returns-4
 returns-4 c = search needs
 
 returns-5 : tie.Need-returns-5
-returns-5 c = fate-past _ (c .before .before .before .if1 .left) (c .before .before .if2 .left) (c .before .if3 .left) (c .if4 .left)
+returns-5 c = search needs
+
+returns-6 : tie.Need-returns-6
+returns-6 c =
+    fate-past _ (c .before .before .before .before .if1 .left) (c .before .before .before .if2 .left) (c .before .before .if3 .left)
+    (c .before .if4 .left) (c .if5 .left)
 
 pub fate-from-spec : {M : Type 1} → statement M
-fate-from-spec = tie.close (tie.spec returns returns-2 returns-3 returns-4 returns-5)
+fate-from-spec = tie.close (tie.spec returns returns-2 returns-3 returns-4 returns-5 returns-6)

@@ -13,9 +13,14 @@ count-fate-requires-2 c κs = search needs
 count-fate-requires-3 : tie.Need-count-fate-requires-3
 count-fate-requires-3 c κs = search needs
 
+count-fate-requires-4 : tie.Need-count-fate-requires-4
+count-fate-requires-4 c κs = search needs
+
 returns : tie.Need-returns
-returns c = counts-are _ (c .before .before .count-fate .ensures) (c .before .count-fate2 .ensures) (c .count-fate3 .ensures)
+returns c =
+    counts-are _ (c .before .before .before .count-fate .ensures) (c .before .before .count-fate2 .ensures)
+    (c .before .count-fate3 .ensures) (c .count-fate4 .ensures)
 
 pub count-lines-spec : {M : Type 1} → statement M
 count-lines-spec =
-    tie.close (tie.spec count-fate-requires count-fate-requires-2 count-fate-requires-3 returns)
+    tie.close (tie.spec count-fate-requires count-fate-requires-2 count-fate-requires-3 count-fate-requires-4 returns)

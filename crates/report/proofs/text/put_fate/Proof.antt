@@ -49,6 +49,15 @@ slice-aggregate-put-bytes-5 c = search needs
 put-bytes-requires-5 : tie.Need-put-bytes-requires-5
 put-bytes-requires-5 c κs = search needs
 
+enum-told-6 : tie.Need-enum-told-6
+enum-told-6 c = search needs
+
+slice-aggregate-put-bytes-6 : tie.Need-slice-aggregate-put-bytes-6
+slice-aggregate-put-bytes-6 c = search needs
+
+put-bytes-requires-6 : tie.Need-put-bytes-requires-6
+put-bytes-requires-6 c κs = search needs
+
 returns : tie.Need-returns
 returns c =
     fate-put _ _ _ _
@@ -84,6 +93,13 @@ returns-5 c =
     (c .before .before .before .before .before .pre)
     (c .put-bytes5 .ensures)
 
+returns-6 : tie.Need-returns-6
+returns-6 c =
+    fate-put _ _ _ _
+    (c .before .before .before .enum-told6 .given .1)
+    (c .before .before .before .before .before .pre)
+    (c .put-bytes6 .ensures)
+
 pub put-fate-spec : {M : Type 1} → statement M
 put-fate-spec =
     tie.close
@@ -103,8 +119,12 @@ put-fate-spec =
     enum-told-5
     slice-aggregate-put-bytes-5
     put-bytes-requires-5
+    enum-told-6
+    slice-aggregate-put-bytes-6
+    put-bytes-requires-6
     returns
     returns-2
     returns-3
     returns-4
-    returns-5)
+    returns-5
+    returns-6)

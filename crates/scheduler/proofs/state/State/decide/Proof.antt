@@ -14,7 +14,9 @@ do-events-requires : tie.Need-do-events-requires
 do-events-requires c κs = search needs
 
 returns : tie.Need-returns
-returns c = decide-found _ _ _ (c .before .before .before .find-order .ensures) _ (c .before .before .if1 .taken) (c .do-events .ensures)
+returns c =
+    let found = c .before .before .before in
+    decide-found _ _ _ (found .before .find-order .ensures) _ (found .if1 .taken) (c .do-events .ensures)
 
 mul-declared : tie.Need-mul-declared
 mul-declared c = search needs

@@ -16,7 +16,7 @@ search-requires c κs = (omega arith, c .before .before .pre)
 returns : tie.Need-returns
 returns c =
     let s = c .before .before .before .args .self in
-    subst (λ (v : ℕ). c .search .result ≡ foundFrom 0 (steps s v 0 6)) (c .before .if1 .taken) (c .search .ensures)
+    subst (λ (v : ℕ). c .search .result ≡ foundFrom s 0 (steps s v 0 6)) (c .before .if1 .taken) (c .search .ensures)
 
 search-requires-2 : tie.Need-search-requires-2
 search-requires-2 c κs = (omega arith, c .before .before .pre)

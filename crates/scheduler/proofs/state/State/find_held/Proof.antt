@@ -116,8 +116,14 @@ loop-again c =
     ))
     (c .if1 .came)
 
+blank-order-requires : tie.Need-blank-order-requires Inv-loop μ-loop
+blank-order-requires c κs = tt
+
 returns-2 : tie.Need-returns-2 Inv-loop μ-loop
-returns-2 c = held-none (c .before .before .before .before .before .before .args .self) (c .before .loop .e) (c .before .loop .inv .1) (c .loop-test .left)
+returns-2 c =
+    let turn = c .before .before in
+    let s = turn .before .before .before .before .before .args .self in
+    c .blank-order .ensures ∙ held-none s (turn .loop .e) (turn .loop .inv .1) (c .before .loop-test .left)
 
 pub find-held-spec : {M : Type 1} → statement M
 find-held-spec =
@@ -137,4 +143,5 @@ find-held-spec =
     add-e
     loop-less
     loop-again
+    blank-order-requires
     returns-2)

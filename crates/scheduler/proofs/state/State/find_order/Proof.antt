@@ -1,5 +1,5 @@
 -- `State::find_order` meets its contract.
-use mathlib.Core.Path.{refl}
+use mathlib.Core.Path.{refl, _∙_}
 use Rattle.scheduler.specs.State.{fateOf}
 use Rattle.scheduler.proofs.Sizes.{sized}
 use Rattle.scheduler.proofs.SearchLoops.{members-none, members-found, hopeful-all}
@@ -30,18 +30,24 @@ returns c =
     (c .find-among .result)
     (c .find-among .ensures)
 
+blank-order-requires : tie.Need-blank-order-requires
+blank-order-requires c κs = tt
+
 returns-2 : tie.Need-returns-2
 returns-2 c =
-    let st = c .before .before .before .before .before .before in
+    let missed = c .before in
+    let view = missed .before .before .before .before .before .view in
+    let st = missed .before .before .before .before .before .before in
     let s = st .args .self in
-    members-none s
+    c .blank-order .ensures
+    ∙ members-none s
     (sized s (st .good .0))
     (st .args .event)
-    (c .before .before .before .before .before .view .result .able)
-    (hopeful-all s (c .before .before .before .before .before .view .result) (c .before .before .before .before .before .view .ensures))
-    (c .before .close-set .result)
-    (c .before .close-set .ensures (s .plan) (fateOf s) refl refl (c .before .before .before .before .before .view .ensures))
-    (c .if1 .left)
+    (view .result .able)
+    (hopeful-all s (view .result) (view .ensures))
+    (missed .before .close-set .result)
+    (missed .before .close-set .ensures (s .plan) (fateOf s) refl refl (view .ensures))
+    (missed .if1 .left)
 
 pub find-order-spec : {M : Type 1} → statement M
-find-order-spec = tie.close (tie.spec view-requires close-set-requires find-among-requires returns returns-2)
+find-order-spec = tie.close (tie.spec view-requires close-set-requires find-among-requires returns blank-order-requires returns-2)

@@ -74,7 +74,7 @@ turned c =
     (λ w. turn-refuses s e same (w .0 .taken) ∙ ap {B = Option State} some (sym (w .2 ∙ w .1 .ensures)))
     (λ w.
     turn-does s e same (λ lt. omega (arith, w .0 .left)) (w .1 .result) (w .1 .ensures) (not-false _ (w .3 .left))
-    ∙ ap {B = Option State} some (sym (w .6 ∙ w .5 .ensures)))
+    ∙ ap {B = Option State} some (sym (w .7 ∙ w .6 .ensures)))
     (c .if2 .came)
 
 returns-3 : tie.Need-returns-3 Inv-loop μ-loop

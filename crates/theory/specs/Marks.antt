@@ -1,0 +1,87 @@
+-- The mark forced: what a state is without it, and what may be marked.
+use Prim.Native.Nat.{ℕ}
+use mathlib.Core.Bool.{true}
+use mathlib.Core.List.{List, [], _∷_, _++_, map}
+use mathlib.Core.Logic.{_⊎_}
+use mathlib.Core.Path.{_≡_}
+use Rattle.plan.specs.declared.fate.Fate.{Fate}
+use Rattle.plan.specs.declared.fate.Fate.the-variants.{Open, Held, Done, Refused, Lapsed, Forced}
+use Rattle.plan.specs.declared.fate.Standing.{Standing}
+use Rattle.plan.specs.declared.history.Entry.{Entry}
+use Rattle.plan.specs.declared.calls.Call.{Call}
+use Rattle.plan.specs.declared.calls.Call.the-variants.{Submit}
+use Rattle.plan.specs.declared.answer.Answer.{Answer}
+use Rattle.plan.specs.declared.answer.Answer.the-variants.{Is, Made, TurnedDown}
+use Rattle.scheduler.specs.declared.state.State.{State}
+use Rattle.scheduler.specs.declared.reply.Reply.{Reply}
+use Rattle.plan.specs.Plans.{forcible}
+use Rattle.scheduler.specs.State.{fateOf, lineCount, Sized}
+use Rattle.scheduler.specs.Orders.{First, doAll}
+use Rattle.scheduler.specs.Answers.{callFault, call}
+use Rattle.scheduler.specs.Lists.{Scheduler, scheduler, after}
+use Rattle.scheduler.specs.Demand.{Story, seen}
+use Rattle.scheduler.specs.Grounds.{Trail}
+
+-- forced read as done (7.13)
+abbrev pub forgetFate : Fate → Fate
+forgetFate x = elim x [ Open ↦ Open | Held ↦ Held | Done ↦ Done | Refused ↦ Refused | Lapsed ↦ Lapsed | Forced ↦ Done ]
+
+-- in a line, in an answer, in every fate and line of a state, and in a reply (7.13)
+abbrev pub forgetLine : Entry → Entry
+forgetLine l = record { event = l .event; fate = forgetFate (l .fate) }
+
+abbrev pub forgetAnswer : Answer → Answer
+forgetAnswer a = elim a [ Is x ↦ Is (forgetFate x) | Made ↦ Made | TurnedDown f ↦ TurnedDown f ]
+
+unfoldable pub forget : State → State
+forget s = record {
+  plan = s .plan;
+  standings = map (λ (v : Standing). record { fate = forgetFate (v .fate) }) (s .standings);
+  broken = s .broken;
+  closed = s .closed;
+  history = map forgetLine (s .history);
+  «history_len» = lineCount s;
+}
+
+abbrev pub forgetReply : Reply → Reply
+forgetReply r = record { answer = forgetAnswer (r .answer); state = forget (r .state) }
+
+-- a call on a state and on the same state without marks: turned down by the same number or taken, and what they give
+-- differs in marks alone (11.18)
+pub record Alike (s : State) (c : Call) : Type 0 where
+  pub refusals : callFault s c ≡ callFault (forget s) c
+  pub replies : forgetReply (call s c) ≡ forgetReply (call (forget s) c)
+
+-- a list's story without marks; and the scheduler that rubs the marks out after every call (11.19)
+abbrev pub forgetStory : Story → Story
+forgetStory story = map (λ (x : Call × List Entry). (x .0, map forgetLine (x .1))) story
+
+abbrev pub unmarked : Scheduler
+unmarked s c = forget (scheduler s c)
+
+-- a list on a sheet's first state: the histories and the last state differ from that scheduler's in marks alone, and so does
+-- every call that may follow (11.19)
+pub record ListAlike (s : State) (cs : List Call) : Type 0 where
+  pub stories : forgetStory (seen scheduler s cs) ≡ seen unmarked s cs
+  pub ends : forget (after scheduler s cs) ≡ after unmarked s cs
+  pub next : (c : Call) → Alike (after scheduler s cs) c
+
+-- how call c forces e, which is open before it: at some state of the call, in the chosen order of an event held there, e is
+-- open when its turn comes, and it is forcible (12.6)
+pub record ForcedBy (c : Call) (s : State) (e : ℕ) : Type 0 where
+  pub fresh : fateOf s e ≡ Open
+  pub may : forcible (s .plan) e ≡ true
+  pub at : State
+  pub reached : Trail c s at
+  pub for : ℕ
+  pub waits : fateOf at for ≡ Held
+  pub earlier : List ℕ
+  pub later : List ℕ
+  pub order : First at for (earlier ++ (e ∷ later))
+  pub opened : fateOf (doAll at earlier) e ≡ Open
+
+-- of any scheduler: an event that is forced after a call was so before it, or is forced by it like this; and a hand-in does
+-- not force the event that it hands in (12.6)
+pub record Forces (step : Scheduler) : Type 0 where
+  pub only : (s : State) (c : Call) (e : ℕ) → Sized s → fateOf (step s c) e ≡ Forced → (fateOf s e ≡ Forced) ⊎ ForcedBy c s e
+  pub others : (s : State) (e : ℕ) → Sized s → fateOf (step s (Submit e)) e ≡ Forced → fateOf s e ≡ Forced
