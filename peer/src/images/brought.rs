@@ -98,7 +98,8 @@ pub fn scheduler(image: &Image) -> Option<Scheduler> {
     let of_fate = |fate| places(image, FATE, image[EVENTS], number(fate));
     let state = State {
         held: of_fate(Fate::Held),
-        done: of_fate(Fate::Done),
+        done: of_fate(Fate::Done) | of_fate(Fate::Forced),
+        forced: of_fate(Fate::Forced),
         refused: of_fate(Fate::Refused),
         lapsed: of_fate(Fate::Lapsed),
         broken: places(image, BROKEN, image[RULES], 1),
