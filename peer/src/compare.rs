@@ -35,8 +35,9 @@ pub struct Tally {
     pub unreadable: usize,
     /// Windings up that were accepted.
     pub finished: usize,
-    /// Hand-ins answered with held.
+    /// Hand-ins answered with held, and with forced.
     pub answered_held: usize,
+    pub answered_forced: usize,
     /// History lines by cause.
     pub ordered: usize,
     pub forced: usize,
@@ -45,6 +46,8 @@ pub struct Tally {
     pub no_order: usize,
     pub wind_up: usize,
     pub lapsed: usize,
+    /// History lines that say forced.
+    pub forced_lines: usize,
     /// Orders of held events alone that were done, orders with a forced event,
     /// and orders of either sort where more than seven events could have stood
     /// in one; the place is the length. The second has nothing at length 1: an
@@ -97,11 +100,13 @@ impl Tally {
                 Answer::Unreadable => self.unreadable += 1,
                 Answer::Finished => self.finished += 1,
                 Answer::Fate(Fate::Held) => self.answered_held += 1,
+                Answer::Fate(Fate::Forced) => self.answered_forced += 1,
                 Answer::Fate(_) | Answer::Closed => {}
             }
         }
         for line in run.scheduler.history() {
             *self.of_cause(line.cause) += 1;
+            self.forced_lines += usize::from(line.fate == Fate::Forced);
         }
         self.add_sheet(run.scheduler.sheet());
         self.add_met(run.scheduler.met());
@@ -165,6 +170,7 @@ impl Tally {
             ("unreadable calls", self.unreadable),
             ("windings up", self.finished),
             ("answers held", self.answered_held),
+            ("answers forced", self.answered_forced),
             ("events done in an order", self.ordered),
             ("forced events", self.forced),
             ("events done alone", self.alone),
@@ -172,6 +178,7 @@ impl Tally {
             ("refusals for want of an order", self.no_order),
             ("refusals by winding up", self.wind_up),
             ("lapses", self.lapsed),
+            ("lines that say forced", self.forced_lines),
             ("needs broken", self.broken_needs),
             ("conditionals broken", self.broken_conditionals),
             ("lists with a broken rule", self.broken),

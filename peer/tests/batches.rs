@@ -6,6 +6,7 @@ use peer::compare::{seed, SEED};
 use peer::images::batches::{agree, compare, Batch, COUNT};
 use peer::images::brought::scheduler;
 use peer::images::layout::{first, Image, FATE, LINES, LINE_EVENT, LINE_FATE, SPARE};
+use peer::images::marks::bare;
 use peer::library::raw::{self, Entry};
 use peer::library::STATE_LEN;
 use peer::peer::batch::MOST;
@@ -23,13 +24,15 @@ fn every_batch_agrees_with_peer() {
             assert!(tally.batches >= COUNT);
             assert_eq!(tally.answered[0], 0);
             assert_eq!(tally.missing(LEAST), None);
+            assert_eq!(tally.forced_before.unforcible[0], 0);
         }
         Err(difference) => panic!("seed {seed}, {difference}"),
     }
 }
 
-/// Batches that leave the last entry of a full list without its answer, or that write
-/// into bytes that they turn down, are found out, and too few batches are noticed.
+/// Batches that leave the last entry of a full list without its answer, that write into
+/// bytes that they turn down, or that answer done for a forced event, are found out, and
+/// too few batches are noticed.
 #[test]
 fn the_comparison_of_batches_can_fail() {
     let unanswered: Batch = |image, entries| {
@@ -45,7 +48,20 @@ fn the_comparison_of_batches_can_fail() {
         image[SPARE] = 0;
         number
     };
-    for (wrong, what) in [(unanswered, "the entries"), (hasty, "the bytes")] {
+    let answers_done: Batch = |image, entries| {
+        let number = raw::submit_all(image, entries);
+        if number == 0 {
+            entries
+                .iter_mut()
+                .for_each(|entry| entry.fate = bare(entry.fate));
+        }
+        number
+    };
+    for (wrong, what) in [
+        (unanswered, "the entries"),
+        (hasty, "the bytes"),
+        (answers_done, "the entries"),
+    ] {
         let found = compare(SEED, COUNT, wrong);
         assert!(found.is_err_and(|found| found.contains(what)), "{what}");
     }
@@ -102,6 +118,11 @@ fn answers_are_those_of_the_calls_in_turn() {
     let rows = [[16, 0, 0, 1], [17, 1, 0, 0], [16, 0, 0, 3], [16, 1, 0, 4]];
     check(&mut image, 0, &rows);
     assert_eq!(lines(&image), [(1, 4), (0, 3)]);
+    // Event 1 is forced, and stays so.
+    let mut image = first(sheet_of("D"));
+    let rows = [[16, 0, 0, 2], [16, 1, 0, 5], [17, 1, 0, 0], [16, 1, 0, 5]];
+    check(&mut image, 0, &rows);
+    assert_eq!(lines(&image), [(0, 2), (1, 5)]);
 }
 
 /// A list of 64 is taken, and one of 65 is not, nor are any on bytes that are no state.

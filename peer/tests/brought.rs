@@ -1,5 +1,5 @@
 //! States that a caller brings, to which no list may lead: the library's calls on
-//! their bytes against a plain reading of document 01 that tries every order.
+//! their bytes against a plain reading of document 01 and of S-5 that tries every order.
 
 #[allow(dead_code)]
 mod plain;
@@ -8,6 +8,7 @@ use peer::compare::{hex, SEED};
 use peer::images::brought::brought;
 use peer::images::damaged::LIBRARY;
 use peer::images::layout::*;
+use peer::images::marks::{has_forced, unmarked, FORCED};
 use peer::library::raw;
 use peer::peer::calls::Call;
 use peer::random::Random;
@@ -19,12 +20,13 @@ const CALLS: usize = 4;
 const MOST: usize = 6;
 const LEAST: usize = 150;
 
-const FATES: [Fate; 5] = [
+const FATES: [Fate; 6] = [
     Fate::Open,
     Fate::Held,
     Fate::Done,
     Fate::Refused,
     Fate::Lapsed,
+    Fate::Forced,
 ];
 
 fn plain_of(sheet: &[u8], image: &Image) -> Plain {
@@ -79,17 +81,28 @@ fn any_call(random: &mut Random, image: &Image) -> Call {
 }
 
 /// Calls that changed the state, that settled several events, that recorded a rule,
-/// and that were turned down.
+/// that forced an event, and that were turned down; hand-ins of an event that is forced.
+/// States with a forced event, and with one that is not forcible.
 #[derive(Debug, Default)]
 struct Tally {
     changed: usize,
     several: usize,
     recorded: usize,
+    forcing: usize,
     turned_down: usize,
+    of_forced: usize,
+    forced: usize,
+    unforcible: usize,
 }
 
 impl Tally {
-    fn add(&mut self, before: &Image, after: &Image, number: u8) {
+    fn add_state(&mut self, image: &Image) {
+        let [forced, unforcible] = has_forced(image);
+        self.forced += usize::from(forced);
+        self.unforcible += usize::from(unforcible);
+    }
+
+    fn add(&mut self, call: Call, before: &Image, after: &Image, number: u8) {
         let marks = |image: &Image| {
             image[BROKEN..CLOSED]
                 .iter()
@@ -100,6 +113,25 @@ impl Tally {
         self.several += usize::from(after[LINES] > before[LINES] + 1);
         self.recorded += usize::from(marks(after) > marks(before));
         self.turned_down += usize::from(number != 0);
+        let lines = usize::from(before[LINES])..usize::from(after[LINES]);
+        self.forcing += usize::from(after[LINE_FATE..][lines].contains(&FORCED));
+        if let (Call::Submit(event), 0) = (call, number) {
+            let forced = before[FATE + usize::from(event)] == FORCED;
+            self.of_forced += usize::from(forced);
+        }
+    }
+
+    fn counts(&self) -> [usize; 8] {
+        [
+            self.changed,
+            self.several,
+            self.recorded,
+            self.forcing,
+            self.turned_down,
+            self.of_forced,
+            self.forced,
+            self.unforcible,
+        ]
     }
 }
 
@@ -116,7 +148,7 @@ fn agree(random: &mut Random, sheet: &[u8], start: &Image, tally: &mut Tally) {
         let place = format!("{call:?} on {}", hex(&before));
         assert_eq!(number != 0, plain.refused_calls > refused, "{place}");
         assert!(image == expected, "{place}: {}", hex(&image));
-        tally.add(&before, &image, number);
+        tally.add(call, &before, &image, number);
     }
 }
 
@@ -128,16 +160,15 @@ fn calls_on_brought_states_agree() {
     while states < STATES {
         if let Some((made, image)) = brought(&mut random, MOST) {
             assert_eq!(raw::check(&image), 0, "{}", hex(&image));
+            assert_eq!(raw::check(&unmarked(&image)), 0, "{}", hex(&image));
+            tally.add_state(&image);
             agree(&mut random, &made.bytes, &image, &mut tally);
             states += 1;
         }
     }
     println!("{tally:?}");
-    let counts = [
-        tally.changed,
-        tally.several,
-        tally.recorded,
-        tally.turned_down,
-    ];
-    assert!(counts.iter().all(|count| *count >= LEAST), "{tally:?}");
+    assert!(
+        tally.counts().iter().all(|count| *count >= LEAST),
+        "{tally:?}"
+    );
 }

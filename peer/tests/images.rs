@@ -3,7 +3,8 @@
 
 use peer::compare::{seed, SEED};
 use peer::images::damaged::{self, Functions, LIBRARY};
-use peer::images::layout::{first, Image, SPARE};
+use peer::images::layout::*;
+use peer::images::marks::{has_forced, unmarked};
 use peer::images::single::{self, Host, Shown};
 use peer::library::{raw, State, STATE_LEN};
 use peer::peer::calls::Call;
@@ -34,6 +35,7 @@ fn damaged_bytes_are_turned_down_or_stay_a_state() {
             println!("{tally:#?}");
             assert!(tally.images >= 20_000);
             assert_eq!(tally.missing(LEAST), None);
+            assert_eq!(tally.changed_to_none.map(|[_, passed]| passed), [0, 0]);
         }
         Err(wrong) => panic!("seed {seed}, {wrong}"),
     }
@@ -98,8 +100,39 @@ fn without_last(image: &Image) -> Image {
     image
 }
 
+/// The bytes of a state without the mark; any others as they are.
+fn shown_done(image: &Image) -> Image {
+    match raw::check(image) {
+        0 => unmarked(image),
+        _ => *image,
+    }
+}
+
+/// Checks that take a line that says done for that of a forced event, and the reverse; that
+/// ask a forced event to be forcible; that know no forced event; that take 6 for a fate; and
+/// that look at no fate past the counts.
+const WRONG_CHECKS: [fn(&Image) -> u8; 5] = [
+    |image| raw::check(&unmarked(image)),
+    |image| match (raw::check(image), has_forced(image)) {
+        (0, [_, true]) => 12,
+        (number, _) => number,
+    },
+    |image| match (raw::check(image), has_forced(image)) {
+        (0, [true, _]) => 12,
+        (number, _) => number,
+    },
+    |image| raw::check(&image.map(|byte| if byte == 6 { 5 } else { byte })),
+    |image| {
+        let mut image = *image;
+        let past = usize::from(image[EVENTS]).min(16);
+        image[FATE + past..BROKEN].fill(0);
+        raw::check(&image)
+    },
+];
+
 /// Functions that do not look at the last byte, that write before they turn a call
-/// down, or that report on bytes that are no state, are found out.
+/// down, or that report on bytes that are no state, are found out, and so are those that
+/// treat a forced event wrongly.
 #[test]
 fn the_comparison_of_damage_can_fail() {
     let blind = Functions {
@@ -118,7 +151,19 @@ fn the_comparison_of_damage_can_fail() {
         report: |image, refused, out| raw::report(&without_last(image), refused, out),
         ..LIBRARY
     };
-    for (wrong, what) in [(blind, "check"), (hasty, "left as"), (open, "report")] {
+    let shows_done = Functions {
+        report: |image, refused, out| raw::report(&shown_done(image), refused, out),
+        ..LIBRARY
+    };
+    let checks = WRONG_CHECKS.map(|check| Functions { check, ..LIBRARY });
+    let checks = checks.into_iter().map(|wrong| (wrong, "check"));
+    let others = [
+        (blind, "check"),
+        (hasty, "left as"),
+        (open, "report"),
+        (shows_done, "report"),
+    ];
+    for (wrong, what) in checks.chain(others) {
         let found = damaged::compare(SEED, damaged::STATES, &wrong);
         assert!(found.is_err_and(|found| found.contains(what)), "{what}");
     }

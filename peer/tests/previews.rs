@@ -4,7 +4,8 @@
 use peer::cases::sheet_of;
 use peer::compare::{seed, SEED};
 use peer::images::brought::scheduler;
-use peer::images::layout::{first, Image, EVENTS, FATE, LINES, LINE_FATE};
+use peer::images::layout::{first, Image, ATTRIBUTES, EVENTS, FATE, LINES, LINE_FATE};
+use peer::images::marks::FORCIBLE;
 use peer::images::previews::{agree, compare, Counts, Preview, COUNT, LIBRARY};
 use peer::images::runs::led_to;
 use peer::library::{raw, STATE_LEN};
@@ -27,6 +28,7 @@ fn every_preview_agrees_with_peer() {
                 assert!(tally.numbers[number] >= LEAST_OF_NUMBER, "{number}");
             }
             assert_eq!(tally.others[0], 0);
+            assert_eq!(tally.forced_before.unforcible[0], 0);
         }
         Err(difference) => panic!("seed {seed}, {difference}"),
     }
@@ -99,6 +101,35 @@ fn tests_event_first(image: &mut Image, event: u8, added: &mut Counts) -> u8 {
     raw::preview(image, event, added)
 }
 
+fn counts_forced_as_done(image: &mut Image, event: u8, added: &mut Counts) -> u8 {
+    let number = raw::preview(image, event, added);
+    if number == 0 {
+        added[0] += added[3];
+        added[3] = 0;
+    }
+    number
+}
+
+/// Counts what is forced among what is done, and apart as well.
+fn counts_forced_twice(image: &mut Image, event: u8, added: &mut Counts) -> u8 {
+    let number = raw::preview(image, event, added);
+    if number == 0 {
+        added[0] += added[3];
+    }
+    number
+}
+
+/// Counts what a forcible event adds for itself as forced.
+fn counts_itself_as_forced(image: &mut Image, event: u8, added: &mut Counts) -> u8 {
+    let number = raw::preview(image, event, added);
+    let forcible = || image[ATTRIBUTES + usize::from(event)] & FORCIBLE != 0;
+    if number == 0 && added[0] > 0 && forcible() {
+        added[0] -= 1;
+        added[3] += 1;
+    }
+    number
+}
+
 fn really_hands_in(image: &mut Image, event: u8, added: &mut Counts) -> u8 {
     raw::preview(image, event, added);
     raw::submit(image, event)
@@ -108,13 +139,16 @@ fn really_hands_in(image: &mut Image, event: u8, added: &mut Counts) -> u8 {
 /// noticed.
 #[test]
 fn the_comparison_of_previews_can_fail() {
-    let wrong: [(Preview, &str); 8] = [
+    let wrong: [(Preview, &str); 11] = [
         (counts_history, "the counts"),
         (counts_itself, "the counts"),
         (counts_settling, "the counts"),
         (takes_everything, "the number"),
         (writes_when_turned_down, "the counts"),
         (writes_no_zero, "the counts"),
+        (counts_forced_as_done, "the counts"),
+        (counts_forced_twice, "the counts"),
+        (counts_itself_as_forced, "the counts"),
         (tests_event_first, "the number"),
         (really_hands_in, "the bytes"),
     ];
@@ -143,7 +177,7 @@ fn check(image: &Image, event: u8, expected: Result<Counts, u8>) {
     );
 }
 
-/// Those that wait for the event are done with it, and so are those that are forced.
+/// Those that wait for the event are done with it; those that it forces are counted apart.
 #[test]
 fn other_events_are_counted() {
     let image = led_to(sheet_of("A"), &[]);
@@ -153,7 +187,7 @@ fn other_events_are_counted() {
     check(&led_to(sheet_of("A"), &[16, 1]), 0, Ok([2, 0, 0, 0]));
     check(&led_to(sheet_of("L"), &[16, 0, 16, 1]), 2, Ok([2, 0, 0, 0]));
     let image = led_to(sheet_of("D"), &[]);
-    check(&image, 0, Ok([2, 0, 0, 0]));
+    check(&image, 0, Ok([1, 0, 0, 1]));
     check(&image, 1, Ok([1, 0, 0, 0]));
     check(&led_to(sheet_of("E"), &[17, 1]), 0, Ok([1, 0, 0, 0])); // alone
     let six = [16, 0, 16, 1, 16, 2, 16, 3, 16, 4, 16, 5];
@@ -182,9 +216,11 @@ fn an_event_that_is_not_open_counts_nothing() {
     check(&led_to(sheet_of("A"), &[16, 0]), 0, Ok(NONE));
     let done = led_to(sheet_of("A"), &[16, 0, 16, 1]);
     let refused = led_to(sheet_of("B"), &[16, 0, 17, 1]);
+    let forced = led_to(sheet_of("D"), &[16, 0]);
     for event in [0, 1] {
         check(&done, event, Ok(NONE));
         check(&refused, event, Ok(NONE));
+        check(&forced, event, Ok(NONE));
     }
     let mut image = first(sheet_of("C"));
     image[FATE] = 1;

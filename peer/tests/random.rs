@@ -17,13 +17,15 @@ fn library_agrees_with_peer() {
             assert_eq!(tally.pairs, COUNT);
             assert_eq!(tally.missing(LEAST), None);
             assert_eq!(tally.broken_orders, 0);
+            assert_eq!(tally.forced_lines, tally.forced);
         }
         Err(difference) => panic!("seed {seed}, {difference}"),
     }
 }
 
 /// A library that is wrong only where all sixteen events could stand in an
-/// order is found out, and too few pairs are noticed.
+/// order is found out, and so is one that says done of what it forces; too few pairs
+/// are noticed.
 #[test]
 fn the_comparison_can_fail() {
     let wrong = |sheet: &[u8], calls: &[u8]| {
@@ -35,6 +37,12 @@ fn the_comparison_can_fail() {
         report
     };
     assert!(compare(SEED, 1_000, wrong).is_err());
+    let shows_done = |sheet: &[u8], calls: &[u8]| {
+        let report = second::run(sheet, calls);
+        let text = String::from_utf8(report).expect("a report is plain text");
+        text.replace("forced", "done").into_bytes()
+    };
+    assert!(compare(SEED, 1_000, shows_done).is_err());
     let few = compare(SEED, 1_000, second::run).expect("the peer agrees with itself");
     assert!(few.missing(LEAST).is_some());
 }

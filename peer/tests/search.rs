@@ -1,5 +1,5 @@
-//! The peer against a plain reading of document 01 that tries every order. No
-//! library is needed for it.
+//! The peer against a plain reading of document 01 and of S-5 that tries every order.
+//! No library is needed for it.
 
 mod plain;
 
@@ -58,7 +58,7 @@ fn any_fates(random: &mut Random, sheet: &Sheet, most: u32) -> Vec<Fate> {
         let mut fate = random.pick(&[Fate::Held, Fate::Held, Fate::Open]);
         let counts = fate == Fate::Held || has(sheet.forcible, event);
         if random.percent(settled) || (counts && usable == most) {
-            fate = random.pick(&[Fate::Done, Fate::Done, Fate::Refused, Fate::Lapsed]);
+            fate = random.pick(&[Fate::Done, Fate::Forced, Fate::Refused, Fate::Lapsed]);
         } else {
             usable += u32::from(counts);
         }
@@ -91,9 +91,11 @@ fn any_state(random: &mut Random, most: u32) -> Option<Both> {
     let broken: Vec<bool> = rules.map(|_| random.percent(chance)).collect();
     let mut plain = Plain::read(&bytes);
     plain.put(&fates, &broken);
+    let forced = events_with(&fates, Fate::Forced);
     let mut state = State {
         held: events_with(&fates, Fate::Held),
-        done: events_with(&fates, Fate::Done),
+        done: events_with(&fates, Fate::Done) | forced,
+        forced,
         refused: events_with(&fates, Fate::Refused),
         lapsed: events_with(&fates, Fate::Lapsed),
         ..State::default()
@@ -113,20 +115,30 @@ fn any_state(random: &mut Random, most: u32) -> Option<Both> {
 /// the place is the length.
 type Met = [[usize; 7]; 2];
 
+/// The events of an order, each with whether it is open and to be forced.
+type Told = Vec<(u8, bool)>;
+
 /// The chosen order of each held event, and that of the lowest that has one.
 fn agree_on_state(both: &mut Both, search: &mut Search, met: &mut Met) {
     let (sheet, state) = (&both.sheet, &both.state);
-    let mut chosen = |wanted| -> Option<Vec<u8>> {
+    let mut chosen = |wanted| -> Option<Told> {
         let order = search.chosen(sheet, state, wanted)?;
-        Some(order.events().collect())
+        let told = order
+            .events()
+            .map(|event| (event, has(order.forced(), event)));
+        Some(told.collect())
     };
     let mut first = None;
     for event in members(state.held) {
-        let order = both.plain.chosen(event);
+        let order = both.plain.chosen(event).map(|order| {
+            let is_open = |event: u8| both.plain.fates[usize::from(event)] == Fate::Open;
+            let told = order.into_iter().map(|event| (event, is_open(event)));
+            told.collect::<Told>()
+        });
         let place = format!("{event} in {:02x?} {state:x?}", both.bytes);
         assert_eq!(chosen(one(event)), order, "{place}");
         if let Some(order) = &order {
-            let forced = order.iter().any(|event| !has(state.held, *event));
+            let forced = order.iter().any(|(_, forced)| *forced);
             met[usize::from(forced)][order.len()] += 1;
         }
         first = first.or(order);

@@ -29,6 +29,7 @@ fn every_sheet_written_agrees_with_peer() {
                 assert!(tally.numbers[number] >= LEAST_OF_NUMBER, "{number}");
             }
             assert_eq!(tally.numbers.iter().sum::<usize>(), tally.writings);
+            assert_eq!(tally.forced.unforcible[0], 0);
         }
         Err(difference) => panic!("seed {seed}, {difference}"),
     }

@@ -1,9 +1,10 @@
 //! `compare SEED COUNT`: the library against the peer on random pairs, as lists and
 //! as single calls on a kept state; then damaged copies of as many states; then as many
-//! batches, as many previews, and as many sheets written out.
+//! batches, as many previews, as many sheets written out, and as many lists with and
+//! without the mark of a forced event.
 
 use peer::compare::{compare, COUNT, SEED};
-use peer::images::{batches, damaged, previews, sheets, single};
+use peer::images::{batches, damaged, forced, previews, sheets, single};
 use peer::library::{self, raw, State};
 use std::process::ExitCode;
 
@@ -21,6 +22,8 @@ fn run(seed: u64, count: usize) -> Result<(), String> {
     println!("previews: {previews:#?}");
     let sheets = sheets::compare(seed, count, sheets::LIBRARY)?;
     println!("sheets written out: {sheets:#?}");
+    let forced = forced::compare(seed, count, forced::LIBRARY)?;
+    println!("forced events: {forced:#?}");
     println!("{count} pairs, 0 differences");
     Ok(())
 }

@@ -2,6 +2,7 @@
 //! any bytes that hang together.
 
 use super::layout::*;
+use super::marks::{DONE, FORCED};
 use super::sound::is_sound;
 use crate::peer::set::{one, Set};
 use crate::peer::sheet::{MOST_EVENTS, MOST_RULES};
@@ -17,6 +18,12 @@ const ACTIVE: u8 = 5;
 /// at most `most`.
 pub fn brought(random: &mut Random, most: usize) -> Option<(Made, Image)> {
     let made = sheet(random);
+    let image = brought_over(random, &made, most)?;
+    Some((made, image))
+}
+
+/// The same over a sheet that is given.
+pub fn brought_over(random: &mut Random, made: &Made, most: usize) -> Option<Image> {
     Sheet::read(&made.bytes).ok()?;
     let mut image = first(&made.bytes);
     let chance = random.pick(&[0, 10, 50]);
@@ -27,17 +34,20 @@ pub fn brought(random: &mut Random, most: usize) -> Option<(Made, Image)> {
         image[BROKEN + rule] = u8::from(random.percent(chance));
     }
     put_fates(random, &mut image);
-    (image[EVENTS] > 1 && active(&image) <= most && is_sound(&image)).then_some((made, image))
+    (image[EVENTS] > 1 && active(&image) <= most && is_sound(&image)).then_some(image)
 }
 
+/// Events that are done are forced now and then, whether they are forcible or not.
 fn put_fates(random: &mut Random, image: &mut Image) {
     let mut events: Vec<usize> = (0..usize::from(image[EVENTS])).collect();
     random.shuffle(&mut events);
     for event in events {
         let closed = image[CLOSED + usize::from(image[STEP + event])] == 1;
-        let fate = match random.pick(&[0, 0, 1, 1, 1, 2, 2, 3, 4]) {
-            1 if image[ATTRIBUTES + event] & DELAYABLE == 0 => 2,
+        let done = random.pick(&[DONE, DONE, FORCED]);
+        let fate = match random.pick(&[0, 0, 1, 1, 1, DONE, DONE, 3, 4]) {
+            1 if image[ATTRIBUTES + event] & DELAYABLE == 0 => done,
             0 if closed => 4,
+            DONE => done,
             fate => fate,
         };
         image[FATE + event] = fate;
@@ -66,7 +76,7 @@ pub fn leftovers(random: &mut Random, image: &Image) -> Image {
     for event in count(EVENTS)..MOST_EVENTS {
         copy[STEP + event] = any_byte(random);
         copy[ATTRIBUTES + event] = any_byte(random);
-        copy[FATE + event] = random.below(5) as u8;
+        copy[FATE + event] = random.below(6) as u8;
     }
     for rule in count(RULES)..MOST_RULES {
         let kind = random.pick(&[2, 3, 4, 4]);
@@ -78,7 +88,7 @@ pub fn leftovers(random: &mut Random, image: &Image) -> Image {
     }
     for line in count(LINES)..MOST_EVENTS {
         copy[LINE_EVENT + line] = any_byte(random);
-        copy[LINE_FATE + line] = random.below(5) as u8;
+        copy[LINE_FATE + line] = random.below(6) as u8;
     }
     copy
 }
@@ -98,7 +108,8 @@ pub fn scheduler(image: &Image) -> Option<Scheduler> {
     let of_fate = |fate| places(image, FATE, image[EVENTS], number(fate));
     let state = State {
         held: of_fate(Fate::Held),
-        done: of_fate(Fate::Done),
+        done: of_fate(Fate::Done) | of_fate(Fate::Forced),
+        forced: of_fate(Fate::Forced),
         refused: of_fate(Fate::Refused),
         lapsed: of_fate(Fate::Lapsed),
         broken: places(image, BROKEN, image[RULES], 1),

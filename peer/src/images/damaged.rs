@@ -2,11 +2,14 @@
 //! called, and get number 12; those that it passes are a state like any other,
 //! and stay one.
 
+use super::brought::scheduler;
 use super::layout::*;
+use super::marks::{at_odds, has_forced, marked_otherwise, DONE, FORCED};
 use super::sound::is_sound;
 use crate::compare::{hex, missing, numbered};
 use crate::library::{raw, State, LONGEST_REPORT, STATE_LEN};
-use crate::peer::calls::Call;
+use crate::peer::calls::{Answer, Call, Run};
+use crate::peer::report::report;
 use crate::random::{any_call, sheet, single_calls, Made, Random};
 
 /// The states of the test, and the damaged copies of each.
@@ -14,6 +17,13 @@ pub const STATES: usize = 6_000;
 const COPIES: usize = 6;
 /// The calls that are made on each copy.
 const CALLS: usize = 6;
+/// The copies with another mark and nothing else, and the changed bytes that are a fate.
+const MARK_PERCENT: u64 = 10;
+const FATE_PERCENT: u64 = 12;
+/// Calls turned down, for a report.
+const REFUSED: usize = 7;
+/// The least number that is no fate.
+const NO_FATE: u8 = 6;
 const FILL: u8 = 0xa5;
 pub const INCOHERENT: u8 = 12;
 
@@ -71,25 +81,41 @@ fn any_state(random: &mut Random, made: &Made) -> Option<State> {
 
 /// A copy with one byte changed, or a few, and their places.
 pub fn damaged(random: &mut Random, image: &Image) -> (Image, Vec<usize>) {
+    if random.percent(MARK_PERCENT) {
+        if let Some(marked) = marked_otherwise(random, image) {
+            return marked;
+        }
+    }
     let mut copy = *image;
     let count = random.pick(&[1, 1, 1, 1, 2, 2, 3, 6]);
     let mut places = Vec::new();
     while places.len() < count {
-        // Often in the counts, and seldom in the spare bytes, which are more than half.
-        let end = random.pick(&[STEP, STEP, SPARE, SPARE, SPARE, SPARE, SPARE, STATE_LEN]);
-        let place = random.below(end);
-        let value = match random.below(10) {
-            0..=2 => random.byte(),
-            3..=6 => random.below(17) as u8,
-            7 | 8 => random.below(2) as u8,
-            _ => image[place].wrapping_sub(1),
-        };
+        let (place, value) = any_change(random, image);
         if value != image[place] && !places.contains(&place) {
             copy[place] = value;
             places.push(place);
         }
     }
     (copy, places)
+}
+
+/// A place and a value for it, which may be the one that it has.
+fn any_change(random: &mut Random, image: &Image) -> (usize, u8) {
+    if random.percent(FATE_PERCENT) {
+        let row = random.pick(&[FATE, LINE_FATE]);
+        let fate = random.pick(&[DONE, FORCED, FORCED, NO_FATE]);
+        return (row + random.below(16), fate);
+    }
+    // Often in the counts, and seldom in the spare bytes, which are more than half.
+    let end = random.pick(&[STEP, STEP, SPARE, SPARE, SPARE, SPARE, SPARE, STATE_LEN]);
+    let place = random.below(end);
+    let value = match random.below(10) {
+        0..=2 => random.byte(),
+        3..=6 => random.below(17) as u8,
+        7 | 8 => random.below(2) as u8,
+        _ => image[place].wrapping_sub(1),
+    };
+    (place, value)
 }
 
 impl Functions {
@@ -107,7 +133,7 @@ impl Functions {
             if sound { 0 } else { INCOHERENT },
         )?;
         expect("from_bytes", State::from_bytes(image).is_ok(), sound)?;
-        tally.add_image(sound, places);
+        tally.add_image(image, sound, places);
         self.reports(image, sound)?;
         let mut state = *image;
         for _ in 0..CALLS {
@@ -118,19 +144,14 @@ impl Functions {
         Ok(())
     }
 
-    /// The report's first line tells the counts; of bytes that are no state there is
-    /// no report, and nothing is written.
+    /// The report is the peer's; of bytes that are no state there is none, and nothing
+    /// is written.
     fn reports(&self, image: &Image, sound: bool) -> Result<(), String> {
         let mut out = [FILL; LONGEST_REPORT];
-        let length = (self.report)(image, 7, &mut out);
-        let head = format!("events {} rules {}\n", image[EVENTS], image[RULES]);
+        let length = (self.report)(image, REFUSED, &mut out);
         if sound {
-            let ended = out[..length].ends_with(b"\nrefused calls 7\n");
-            expect(
-                "its report",
-                out.starts_with(head.as_bytes()) && ended,
-                true,
-            )?;
+            let report = String::from_utf8_lossy(&out[..length]);
+            expect("its report", report.as_ref(), &peer_report(image))?;
         } else {
             expect("length of its report", length, 0)?;
         }
@@ -162,6 +183,13 @@ impl Functions {
         expect("only what calls change", same_plan(&before, state), true)?;
         expect("its history goes on", goes_on(&before, state), true)
     }
+}
+
+/// The peer's report of a state.
+fn peer_report(image: &Image) -> String {
+    let scheduler = scheduler(image).expect("a state");
+    let answers = vec![Answer::Unreadable; REFUSED];
+    report(&Ok(Run { scheduler, answers }))
 }
 
 fn expect<T: PartialEq + std::fmt::Debug>(what: &str, got: T, expected: T) -> Result<(), String> {
@@ -230,14 +258,26 @@ pub struct Tally {
     /// the part that the byte is of.
     pub turned_down_for: [usize; 6],
     pub passed_with: [usize; 6],
+    /// Bytes with a fate changed to forced, of an event and of a line, turned down and
+    /// passed; those with one changed to 6, which is no fate.
+    pub changed_to_forced: [[usize; 2]; 2],
+    pub changed_to_none: [[usize; 2]; 2],
+    /// Bytes turned down for a mark alone: a line says done of a forced event, or forced
+    /// of one that is done.
+    pub done_line: usize,
+    pub forced_line: usize,
+    /// Bytes passed with a forced event, and with one that is not forcible.
+    pub forced: usize,
+    pub unforcible: usize,
     /// Numbers of calls on bytes that pass; calls that changed them.
     pub numbers: [usize; 13],
     pub changed: usize,
 }
 
 impl Tally {
-    fn add_image(&mut self, sound: bool, places: &[usize]) {
+    fn add_image(&mut self, image: &Image, sound: bool, places: &[usize]) {
         self.images += 1;
+        self.add_fates(image, sound, places);
         let (of_all, of_one) = if sound {
             (&mut self.passed, &mut self.passed_with)
         } else {
@@ -250,11 +290,30 @@ impl Tally {
         }
     }
 
+    fn add_fates(&mut self, image: &Image, sound: bool, places: &[usize]) {
+        for (of, row) in [FATE..BROKEN, LINE_FATE..SPARE].iter().enumerate() {
+            let changed = places.iter().filter(|place| row.contains(place));
+            let to: Vec<u8> = changed.map(|place| image[*place]).collect();
+            let to = |fate| usize::from(to.contains(&fate));
+            self.changed_to_forced[of][usize::from(sound)] += to(FORCED);
+            self.changed_to_none[of][usize::from(sound)] += to(NO_FATE);
+        }
+        if sound {
+            let [forced, unforcible] = has_forced(image);
+            self.forced += usize::from(forced);
+            self.unforcible += usize::from(unforcible);
+        } else if let Some([done_line, forced_line]) = at_odds(image) {
+            self.done_line += usize::from(done_line);
+            self.forced_line += usize::from(forced_line);
+        }
+    }
+
     /// The first thing that was met fewer than `least` times. A changed spare byte
     /// never passes.
     pub fn missing(&self, least: usize) -> Option<String> {
         let [one_down, several_down] = self.turned_down;
         let [one_passed, several_passed] = self.passed;
+        let [forced_event, forced_line] = self.changed_to_forced;
         let named = [
             ("turned down, one byte changed", one_down),
             ("turned down, several changed", several_down),
@@ -262,6 +321,16 @@ impl Tally {
             ("passed, several changed", several_passed),
             ("calls taken", self.numbers[0]),
             ("calls that changed bytes", self.changed),
+            ("turned down, an event changed to forced", forced_event[0]),
+            ("passed, an event changed to forced", forced_event[1]),
+            ("turned down, a line changed to forced", forced_line[0]),
+            ("passed, a line changed to forced", forced_line[1]),
+            ("events changed to 6", self.changed_to_none[0][0]),
+            ("lines changed to 6", self.changed_to_none[1][0]),
+            ("12 for a line done, the event forced", self.done_line),
+            ("12 for a line forced, the event done", self.forced_line),
+            ("passed with a forced event", self.forced),
+            ("passed with one that is not forcible", self.unforcible),
         ];
         let mut counts: Vec<(String, usize)> = Vec::new();
         counts.extend(named.map(|(name, met)| (name.to_string(), met)));

@@ -104,5 +104,6 @@ pub fn number(fate: Fate) -> u8 {
         Fate::Done => 2,
         Fate::Refused => 3,
         Fate::Lapsed => 4,
+        Fate::Forced => 5,
     }
 }

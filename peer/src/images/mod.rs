@@ -7,12 +7,15 @@
 //! alone. `single` compares after every call, `damaged` changes bytes, `brought` has
 //! states that no list may lead to, and `runs` goes on with states of all these sorts;
 //! on them `batches` compares after every batch, `previews` and `sheets` after every
-//! call.
+//! call. `marks` takes the mark of a forced event off and puts it on, and `forced` makes
+//! the same calls with the mark and without.
 
 pub mod batches;
 pub mod brought;
 pub mod damaged;
+pub mod forced;
 pub mod layout;
+pub mod marks;
 pub mod previews;
 pub mod runs;
 pub mod sheets;

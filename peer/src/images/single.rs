@@ -7,7 +7,7 @@ use crate::library::{raw, Fate, State};
 use crate::peer::calls::{apply, Call};
 use crate::peer::report::report;
 use crate::peer::set::{has, members};
-use crate::peer::{Answer, Reason, Run, Scheduler, Sheet};
+use crate::peer::{Answer, Fate as Own, Line, Reason, Run, Scheduler, Sheet};
 use crate::random::{sheet, single_calls, Random};
 use std::fmt::Debug;
 
@@ -167,7 +167,7 @@ impl<H: Host> Both<H> {
         };
         same("the answer", self.library.call(call), expected)?;
         self.same_state()?;
-        tally.add(call, answer, self.peer.history().len() - lines);
+        tally.add(call, answer, &self.peer.history()[lines..]);
         Ok(answer)
     }
 
@@ -205,9 +205,11 @@ pub struct Tally {
     pub closed_already: usize,
     pub step_not_closed: usize,
     /// Hand-ins that were taken; the place is the fate's number, never 0.
-    pub answered: [usize; 5],
+    pub answered: [usize; 6],
     /// Hand-ins after which several events are settled.
     pub several: usize,
+    /// Lines that say forced.
+    pub forced: usize,
     /// Closings and windings up that were taken.
     pub closed: usize,
     pub finished: usize,
@@ -217,9 +219,11 @@ pub struct Tally {
 }
 
 impl Tally {
-    /// A call after which so many more events are settled.
-    fn add(&mut self, call: Call, answer: Answer, settled: usize) {
+    /// A call, with the lines that it adds.
+    fn add(&mut self, call: Call, answer: Answer, added: &[Line]) {
+        let forced = added.iter().filter(|line| line.fate == Own::Forced);
         self.calls += 1;
+        self.forced += forced.count();
         match (answer, call) {
             (Answer::TurnedDown(Reason::NoSuch), Call::Submit(_)) => self.no_such_event += 1,
             (Answer::TurnedDown(Reason::NoSuch), _) => self.no_such_step += 1,
@@ -227,7 +231,7 @@ impl Tally {
             (Answer::TurnedDown(Reason::StepNotClosed), _) => self.step_not_closed += 1,
             (Answer::Fate(fate), _) => {
                 self.answered[usize::from(number(fate))] += 1;
-                self.several += usize::from(settled > 1);
+                self.several += usize::from(added.len() > 1);
             }
             (Answer::Closed, _) => self.closed += 1,
             (Answer::Finished, _) => self.finished += 1,
@@ -243,6 +247,7 @@ impl Tally {
             ("closings turned down by 10", self.closed_already),
             ("windings up turned down by 11", self.step_not_closed),
             ("hand-ins that settle several", self.several),
+            ("lines that say forced", self.forced),
             ("closings", self.closed),
             ("windings up", self.finished),
             ("lists with a broken rule", self.broken),

@@ -5,7 +5,7 @@ use super::layout::*;
 
 const HELD: u8 = 1;
 const DONE: u8 = 2;
-const LAPSED: u8 = 4;
+const FORCED: u8 = 5;
 const FORCIBLE: u8 = 1;
 const REJECTABLE: u8 = 2;
 const DELAYABLE: u8 = 4;
@@ -24,9 +24,9 @@ fn is_image(image: &Image) -> bool {
     image[VERSION] == 1
         && all(RULE_KIND..RULE_A, |kind| (2..=4).contains(&kind))
         && rules.all(|rule| image[RULE_KIND + rule] == 4 || image[RULE_C + rule] == 0)
-        && all(FATE..BROKEN, |fate| fate <= LAPSED)
+        && all(FATE..BROKEN, |fate| fate <= FORCED)
         && all(BROKEN..LINE_EVENT, |mark| mark <= 1)
-        && all(LINE_FATE..SPARE, |fate| fate <= LAPSED)
+        && all(LINE_FATE..SPARE, |fate| fate <= FORCED)
         && all(SPARE..image.len(), |spare| spare == 0)
 }
 
@@ -47,7 +47,8 @@ fn lines(image: &Image) -> impl Iterator<Item = (u8, u8)> + '_ {
     lines.map(|line| (image[LINE_EVENT + line], image[LINE_FATE + line]))
 }
 
-/// Step, attributes and fate of an event, and its lines.
+/// Step, attributes and fate of an event, and its lines. A line has the very fate of
+/// its event; any event may be forced.
 fn event_fits(image: &Image, event: usize) -> bool {
     let (step, sum, fate) = (
         image[STEP + event],
@@ -96,9 +97,11 @@ fn rule_fits(image: &Image, rule: usize) -> bool {
         && (image[BROKEN + rule] == 1 || is_kept(image, &triggers, goal))
 }
 
-/// Whether a rule that stands holds of the history and owes nothing.
+/// Whether a rule that stands holds of the history and owes nothing. Forced counts as
+/// done.
 fn is_kept(image: &Image, triggers: &[u8], goal: Option<u8>) -> bool {
-    let place = |event: u8| lines(image).position(|line| line == (event, DONE));
+    let is_done = |fate| [DONE, FORCED].contains(&fate);
+    let place = |event| lines(image).position(|line| line.0 == event && is_done(line.1));
     match goal {
         None => match (place(triggers[0]), place(triggers[1])) {
             (Some(first), Some(second)) => first < second,

@@ -8,12 +8,14 @@ pub struct Settlements {
     pub done: u8,
     pub refused: u8,
     pub lapsed: u8,
+    /// Not among those done.
+    pub forced: u8,
 }
 
 impl Settlements {
-    /// The four counts that a library gives. The last has no fate yet.
+    /// The four counts that a library gives.
     pub fn bytes(self) -> [u8; 4] {
-        [self.done, self.refused, self.lapsed, 0]
+        [self.done, self.refused, self.lapsed, self.forced]
     }
 
     fn add(&mut self, line: &Line) {
@@ -21,6 +23,7 @@ impl Settlements {
             Fate::Done => self.done += 1,
             Fate::Refused => self.refused += 1,
             Fate::Lapsed => self.lapsed += 1,
+            Fate::Forced => self.forced += 1,
             Fate::Open | Fate::Held => unreachable!("not a settlement"),
         }
     }

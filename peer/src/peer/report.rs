@@ -38,5 +38,6 @@ fn word(fate: Fate) -> &'static str {
         Fate::Done => "done",
         Fate::Refused => "refused",
         Fate::Lapsed => "lapsed",
+        Fate::Forced => "forced",
     }
 }

@@ -11,9 +11,12 @@ pub enum Fate {
     Done,
     Refused,
     Lapsed,
+    /// Done in an order while open: no one had handed it in.
+    Forced,
 }
 
-/// Why an event was settled. Reports do not show it; the comparison counts it.
+/// Why an event was settled. Reports show no more of it than the fate does; the
+/// comparison counts it.
 #[derive(Clone, Copy, Debug, PartialEq, Eq)]
 pub enum Cause {
     /// Done in a chosen order, after being handed in.
@@ -57,7 +60,10 @@ pub enum Reason {
 #[derive(Clone, Copy, Debug, Default, PartialEq, Eq)]
 pub struct State {
     pub held: Set,
+    /// Also the forced ones: rules, barring and orders tell no difference.
     pub done: Set,
+    /// Those of the done ones that were forced.
+    pub forced: Set,
     pub refused: Set,
     pub lapsed: Set,
     /// Rules recorded as broken.
@@ -79,6 +85,8 @@ impl State {
     pub fn fate(&self, event: u8) -> Fate {
         if has(self.held, event) {
             Fate::Held
+        } else if has(self.forced, event) {
+            Fate::Forced
         } else if has(self.done, event) {
             Fate::Done
         } else if has(self.refused, event) {
@@ -108,7 +116,7 @@ pub struct Met {
 }
 
 impl Met {
-    fn add(&mut self, usable: Set, held: Set, order: Option<Order>) {
+    fn add(&mut self, usable: Set, order: Option<Order>) {
         let width = usable.count_ones();
         self.widest = self.widest.max(width);
         let Some(order) = order else {
@@ -116,7 +124,7 @@ impl Met {
             return;
         };
         let length = order.events().count();
-        let forced = order.events().any(|event| !has(held, event));
+        let forced = order.forced() != 0;
         self.held_orders[length] += usize::from(!forced);
         self.forced_orders[length] += usize::from(forced);
         self.wide_orders[length] += usize::from(width > 7);
@@ -130,6 +138,8 @@ pub struct Scheduler {
     history: Vec<Line>,
     search: Search,
     met: Met,
+    /// What an event that an order forces is written as.
+    forced_as: Fate,
 }
 
 impl Scheduler {
@@ -140,6 +150,7 @@ impl Scheduler {
             history: Vec::new(),
             search: Search::default(),
             met: Met::default(),
+            forced_as: Fate::Forced,
         }
     }
 
@@ -155,6 +166,14 @@ impl Scheduler {
             state,
             history: settled.iter().map(line).collect(),
             ..Scheduler::new(sheet)
+        }
+    }
+
+    /// From now on what an order forces is written as done, as it was before S-5.
+    pub fn without_mark(self) -> Scheduler {
+        Scheduler {
+            forced_as: Fate::Done,
+            ..self
         }
     }
 
@@ -257,9 +276,8 @@ impl Scheduler {
     /// The chosen order of the lowest of these held events that has one.
     fn chosen(&mut self, wanted: Set) -> Option<Order> {
         let order = self.search.chosen(&self.sheet, &self.state, wanted);
-        let held = self.state.held;
         let forcible = self.state.open(&self.sheet) & self.sheet.forcible;
-        self.met.add(held | forcible, held, order);
+        self.met.add(self.state.held | forcible, order);
         order
     }
 
@@ -269,14 +287,15 @@ impl Scheduler {
             .find(|&event| self.rules_that(|rule| rule.bars(event, done, failed)) != 0)
     }
 
+    /// Does an order and writes its events as it says that they were. The event that
+    /// is being handed in is held by then.
     fn perform(&mut self, order: Order) {
         for event in order.events() {
-            let cause = if has(self.state.held, event) {
-                Cause::Ordered
+            if has(order.forced(), event) {
+                self.enter(event, self.forced_as, Cause::Forced);
             } else {
-                Cause::Forced
-            };
-            self.enter(event, Fate::Done, cause);
+                self.enter(event, Fate::Done, Cause::Ordered);
+            }
         }
     }
 
@@ -307,6 +326,10 @@ impl Scheduler {
         self.state.held &= !one(event);
         match fate {
             Fate::Done => self.state.done |= one(event),
+            Fate::Forced => {
+                self.state.done |= one(event);
+                self.state.forced |= one(event);
+            }
             Fate::Refused => self.state.refused |= one(event),
             Fate::Lapsed => self.state.lapsed |= one(event),
             Fate::Open | Fate::Held => unreachable!("not a settlement"),

@@ -26,6 +26,8 @@
 //! first viable order of that length. The walk over held events comes first;
 //! when it has none of a length, every viable order of that length has an open
 //! event, and the walk over all usable events gives the first of those.
+//!
+//! An order also says which of its events were open, for whoever does it (S-5).
 
 use super::rules::Rule;
 use super::scheduler::State;
@@ -106,6 +108,7 @@ impl Terms {
 pub struct Order {
     digits: u32,
     length: u32,
+    forced: Set,
 }
 
 impl Order {
@@ -113,6 +116,11 @@ impl Order {
         (0..self.length)
             .rev()
             .map(move |place| (self.digits >> (4 * place) & 15) as u8)
+    }
+
+    /// Those of its events that were open when it was chosen: doing it forces them.
+    pub fn forced(self) -> Set {
+        self.forced
     }
 }
 
@@ -194,8 +202,8 @@ impl Walk {
     }
 
     /// The lowest event of `wanted` with a viable order in the last layer, and
-    /// the digits of the first such order.
-    fn found(&self, terms: &Terms, mut wanted: Set) -> Option<(u8, u32)> {
+    /// what the first such order reaches.
+    fn found(&self, terms: &Terms, mut wanted: Set) -> Option<(u8, Reached)> {
         let mut best = None;
         for reached in &self.reached[self.layer..] {
             let Some(event) = lowest(reached.done & wanted) else {
@@ -203,7 +211,7 @@ impl Walk {
             };
             if terms.owed(reached.done) == 0 {
                 wanted &= one(event) - 1;
-                best = Some((event, reached.digits));
+                best = Some((event, *reached));
             }
         }
         best
@@ -222,8 +230,8 @@ impl Search {
     /// The events of `wanted` are held.
     pub fn chosen(&mut self, sheet: &Sheet, state: &State, wanted: Set) -> Option<Order> {
         let terms = Terms::new(sheet, state);
-        let held = state.held & !terms.never;
-        let all = held | (state.open(sheet) & sheet.forcible & !terms.never);
+        let (held, open) = (state.held & !terms.never, state.open(sheet));
+        let all = held | (open & sheet.forcible & !terms.never);
         self.over_held.start(state.done);
         self.over_all.start(state.done);
         let mut wanted = wanted & held;
@@ -241,9 +249,14 @@ impl Search {
                     places,
                 };
                 walk.lengthen(&terms, &aim);
-                if let Some((event, digits)) = walk.found(&terms, wanted) {
+                if let Some((event, reached)) = walk.found(&terms, wanted) {
                     wanted &= one(event) - 1;
-                    best = Some(Order { digits, length });
+                    best = Some(Order {
+                        digits: reached.digits,
+                        length,
+                        // What was done before the order was not open.
+                        forced: reached.done & open,
+                    });
                 }
             }
         }

@@ -2,12 +2,14 @@
 
 mod batches;
 mod damage;
+mod forcible;
 mod forms;
 mod lists;
 mod shapes;
 mod sheets;
 
 pub use batches::{batch, batch_length, replies};
+pub use forcible::forcible_sheet;
 pub use forms::{longest_sheet, other_form};
 pub use lists::{any_call, calls, hostile_list, mixed_list, single_calls};
 pub use shapes::hostile_sheet;

@@ -98,7 +98,7 @@ fn shape(random: &mut Random, row: &[u8]) -> Vec<Vec<u8>> {
 }
 
 /// A rule from each event to the next.
-fn chain(kind: u8, row: &[u8]) -> Vec<Vec<u8>> {
+pub(super) fn chain(kind: u8, row: &[u8]) -> Vec<Vec<u8>> {
     row.windows(2).map(|two| [&[kind], two].concat()).collect()
 }
 

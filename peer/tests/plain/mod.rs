@@ -1,6 +1,7 @@
-//! The words of document 01 taken one by one, with no regard to speed: fates in
-//! an array, and a search that tries every order in turn. The peer's own search
-//! is checked against it, and the library's calls on states that a caller brings.
+//! The words of document 01 and of S-5 taken one by one, with no regard to speed:
+//! fates in an array, and a search that tries every order in turn. The peer's own
+//! search is checked against it, and the library's calls on states that a caller
+//! brings.
 
 /// In the sequence of the C header's numbers.
 #[derive(Clone, Copy, PartialEq, Eq, Debug)]
@@ -10,8 +11,16 @@ pub enum Fate {
     Done,
     Refused,
     Lapsed,
+    Forced,
 }
-use Fate::{Done, Held, Lapsed, Open, Refused};
+use Fate::{Done, Forced, Held, Lapsed, Open, Refused};
+
+impl Fate {
+    /// For rules a forced event is as good as one that is done.
+    fn counts_as_done(self) -> bool {
+        matches!(self, Done | Forced)
+    }
+}
 
 #[derive(Clone, Default)]
 pub struct Plain {
@@ -24,6 +33,8 @@ pub struct Plain {
     pub broken: Vec<bool>,
     pub closed: [bool; 8],
     pub refused_calls: usize,
+    /// Whether what is done by force is written as done, as it was before S-5.
+    pub without_mark: bool,
 }
 
 impl Plain {
@@ -76,7 +87,7 @@ impl Plain {
     }
 
     fn done(&self, event: u8) -> bool {
-        self.fate(event) == Done
+        self.fate(event).counts_as_done()
     }
 
     /// Forbids for good, forbids for now.
@@ -111,7 +122,10 @@ impl Plain {
 
     /// Whether the rule holds of the history, by the places in it.
     fn holds(&self, rule: usize) -> bool {
-        let place = |event: u8| self.history.iter().position(|line| *line == (event, Done));
+        let place = |event: u8| {
+            let mut lines = self.history.iter();
+            lines.position(|line| line.0 == event && line.1.counts_as_done())
+        };
         match *self.rules[rule] {
             [2, a, b] => match (place(a), place(b)) {
                 (Some(first), Some(second)) => first < second,
@@ -181,9 +195,11 @@ impl Plain {
         self.history.push((event, fate));
     }
 
+    /// An event that is open when its turn comes is done by force.
     fn perform(&mut self, order: Vec<u8>) {
         for event in order {
-            self.enter(event, Done);
+            let by_force = self.fate(event) == Open && !self.without_mark;
+            self.enter(event, if by_force { Forced } else { Done });
         }
     }
 
@@ -287,7 +303,8 @@ impl Plain {
         }
     }
 
-    /// The conditions of number 12 that a list could break.
+    /// The conditions of number 12 that a list could break, and that only what is
+    /// rejectable is refused and only what is forcible is forced.
     fn check(&self) {
         for event in 0..self.fates.len() as u8 {
             let closed = self.closed[usize::from(self.steps[usize::from(event)])];
@@ -300,6 +317,7 @@ impl Plain {
                 fate => assert_eq!(fates, [fate]),
             }
             assert!(self.fate(event) != Refused || self.is(event, 2));
+            assert!(self.fate(event) != Forced || self.is(event, 1));
         }
         for rule in 0..self.rules.len() {
             assert!(self.broken[rule] || (!self.owes(rule) && self.holds(rule)));

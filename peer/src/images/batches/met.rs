@@ -2,7 +2,9 @@
 
 use super::outcome::Outcome;
 use crate::compare::{missing, numbered};
-use crate::images::runs::{Origin, ORIGINS};
+use crate::images::layout::{Image, FATE};
+use crate::images::marks::{Forced, FORCED};
+use crate::images::runs::{Run, ORIGINS};
 use crate::library::raw::Entry;
 use crate::peer::batch::MOST;
 use crate::peer::{Fate, Scheduler};
@@ -32,9 +34,11 @@ pub struct Tally {
     /// Batches by number, and those with 12 that are too long as well.
     pub numbers: [usize; 14],
     pub damaged_and_long: usize,
-    /// Batches on states, by length and by where the state comes from.
+    /// Batches on states, by length and by where the state comes from; forced events
+    /// before them.
     pub lengths: [usize; 9],
     pub origins: [usize; 3],
+    pub forced_before: Forced,
     /// Batches on a state that a batch was made on before.
     pub later: usize,
     /// Batches taken that leave something to settle: those without an entry, and those
@@ -49,8 +53,10 @@ pub struct Tally {
     pub closed_already: usize,
     pub kinds: Kinds,
     /// Hand-ins that were taken; the place is the fate's number, never 0.
-    pub answered: [usize; 5],
+    pub answered: [usize; 6],
     pub closed: usize,
+    /// Hand-ins answered with forced whose event an earlier entry forces.
+    pub forced_earlier: usize,
     /// Hand-ins answered with held whose event a later entry settles.
     pub settled_later: usize,
     /// Entries that an earlier one of the list is the same as.
@@ -61,21 +67,31 @@ pub struct Tally {
 }
 
 impl Tally {
-    /// A batch, with the peer after it where the bytes are a state.
-    pub fn add(&mut self, outcome: &Outcome, peer: Option<&Scheduler>, origin: Origin) {
+    /// A batch on a run, with the bytes before it and, where they are a state, with the
+    /// peer after it.
+    pub fn add(&mut self, outcome: &Outcome, run: &Run) {
         let lent = outcome.lent();
         self.batches += 1;
         self.numbers[usize::from(outcome.number)] += 1;
-        let Some(peer) = peer else {
+        let Some(peer) = &run.peer else {
             self.damaged_and_long += usize::from(lent.len() > MOST);
             return;
         };
         let class = LENGTHS.iter().position(|(_, most)| lent.len() <= *most);
         self.lengths[class.unwrap_or_default()] += 1;
-        self.origins[origin as usize] += 1;
+        self.origins[run.origin as usize] += 1;
+        self.forced_before.add(&run.image, run.origin);
         if outcome.number == 0 {
             self.add_taken(lent, peer);
+            self.add_forced(lent, &run.image);
         }
+    }
+
+    /// The entries of a batch that is taken, with the bytes before it.
+    fn add_forced(&mut self, entries: &[Entry], before: &Image) {
+        let forced = entries.iter().filter(|entry| entry.fate == FORCED);
+        let earlier = forced.filter(|entry| before[FATE + usize::from(entry.number)] != FORCED);
+        self.forced_earlier += earlier.count();
     }
 
     fn add_taken(&mut self, entries: &[Entry], peer: &Scheduler) {
@@ -136,6 +152,7 @@ impl Tally {
             ("entries turned down of each kind", self.kinds.least().1),
             ("closings", self.closed),
             ("events that a later entry settles", self.settled_later),
+            ("events that an earlier entry forces", self.forced_earlier),
             ("entries that repeat an earlier one", self.repeated),
             ("batches that go on after 2", self.gone_on[2]),
             ("batches that go on after 9", self.gone_on[9]),
@@ -147,6 +164,7 @@ impl Tally {
         for (name, met) in ORIGINS.iter().zip(self.origins) {
             counts.push((format!("batches on states that are {name}"), met));
         }
+        counts.extend(self.forced_before.counts());
         for ((name, _), met) in LENGTHS.iter().zip(self.lengths) {
             counts.push((format!("batches of {name}"), met));
         }

@@ -63,7 +63,7 @@ fn go_on(
 fn make(run: &mut Run, lent: Vec<Entry>, library: Batch, tally: &mut Tally) -> Result<(), String> {
     let agreed = agree(library, &run.image, run.peer.as_mut(), &lent);
     let outcome = agreed.map_err(|what| format!("entries {}\n{what}", listed(&lent)))?;
-    tally.add(&outcome, run.peer.as_ref(), run.origin);
+    tally.add(&outcome, run);
     let later = run.before.iter().any(Before::is_batch);
     tally.later += usize::from(later && run.peer.is_some());
     run.image = outcome.image;

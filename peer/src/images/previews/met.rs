@@ -3,8 +3,9 @@
 use super::outcome::Outcome;
 use crate::compare::{missing, numbered};
 use crate::images::layout::{number, Image, BEYOND, FATE};
-use crate::images::runs::{Origin, ORIGINS};
-use crate::peer::{Fate, Scheduler};
+use crate::images::marks::Forced;
+use crate::images::runs::{Run, ORIGINS};
+use crate::peer::Fate;
 
 #[derive(Clone, Debug, Default, PartialEq, Eq)]
 pub struct Tally {
@@ -18,10 +19,11 @@ pub struct Tally {
     pub undeclared: usize,
     pub beyond: usize,
     pub damaged_and_beyond: usize,
-    /// Previews on states, by where the state comes from.
+    /// Previews on states, by where the state comes from; forced events there.
     pub origins: [usize; 3],
+    pub forced_before: Forced,
     /// Previews taken, by the fate of the event before.
-    pub fates: [usize; 5],
+    pub fates: [usize; 6],
     /// Of an event that is not open, on a state with something to settle.
     pub idle: usize,
     /// Of an open event, by how many are settled: none, 1, 2, 3, and 4 or more.
@@ -29,6 +31,10 @@ pub struct Tally {
     /// Those with refusals, and with events done as well.
     pub refused: usize,
     pub done_and_refused: usize,
+    /// Those with forced events, with several, and with refusals as well.
+    pub forced: usize,
+    pub several_forced: usize,
+    pub forced_and_refused: usize,
     /// Those after which the event is held and others are settled, by where the state
     /// comes from. A list leads to none: all that can be settled without the event is
     /// settled before.
@@ -36,23 +42,16 @@ pub struct Tally {
 }
 
 impl Tally {
-    /// A preview, with the peer's state where the bytes are one, and the bytes after
-    /// really handing in.
-    pub fn add(
-        &mut self,
-        event: u8,
-        outcome: &Outcome,
-        after: &Image,
-        peer: Option<&Scheduler>,
-        origin: Origin,
-    ) {
+    /// A preview on a state of a run, with the bytes after really handing in.
+    pub fn add(&mut self, event: u8, outcome: &Outcome, after: &Image, run: &Run) {
         self.previews += 1;
         self.numbers[usize::from(outcome.number)] += 1;
-        let Some(peer) = peer else {
+        let Some(peer) = &run.peer else {
             self.damaged_and_beyond += usize::from(event >= BEYOND);
             return;
         };
-        self.origins[origin as usize] += 1;
+        self.origins[run.origin as usize] += 1;
+        self.forced_before.add(&run.image, run.origin);
         if outcome.number != 0 {
             self.undeclared += usize::from(event < BEYOND);
             self.beyond += usize::from(event >= BEYOND);
@@ -66,16 +65,19 @@ impl Tally {
         }
         let settled = self.add_open(outcome);
         let held = after[FATE + usize::from(event)] == number(Fate::Held);
-        self.others[origin as usize] += usize::from(held && settled > 0);
+        self.others[run.origin as usize] += usize::from(held && settled > 0);
     }
 
     /// A preview of an open event. Gives how many are settled.
     fn add_open(&mut self, outcome: &Outcome) -> usize {
-        let [done, refused, ..] = outcome.added();
-        let settled = usize::from(done + refused);
+        let [done, refused, _, forced] = outcome.added();
+        let settled = usize::from(done + refused + forced);
         self.settled[settled.min(4)] += 1;
         self.refused += usize::from(refused > 0);
         self.done_and_refused += usize::from(done > 0 && refused > 0);
+        self.forced += usize::from(forced > 0);
+        self.several_forced += usize::from(forced > 1);
+        self.forced_and_refused += usize::from(forced > 0 && refused > 0);
         settled
     }
 
@@ -92,6 +94,9 @@ impl Tally {
             ("idle previews with something to settle", self.idle),
             ("previews with refusals", self.refused),
             ("previews with done and refused", self.done_and_refused),
+            ("previews with forced", self.forced),
+            ("previews with several forced", self.several_forced),
+            ("previews with forced and refused", self.forced_and_refused),
             ("events held, with others settled", self.others[1]),
         ];
         let mut counts: Vec<(String, usize)> = Vec::new();
@@ -101,6 +106,7 @@ impl Tally {
         for (name, met) in ORIGINS.iter().zip(self.origins) {
             counts.push((format!("previews on states that are {name}"), met));
         }
+        counts.extend(self.forced_before.counts());
         missing(counts, least)
     }
 }

@@ -49,7 +49,7 @@ fn preview(
     let fill = [0; 4].map(|_: u8| random.between(LEAST_FILL, 255) as u8);
     let agreed = agree(library, &run.image, run.peer.as_ref(), event, fill);
     let (outcome, after) = agreed.map_err(|what| format!("event {event}: {what}"))?;
-    tally.add(event, &outcome, &after, run.peer.as_ref(), run.origin);
+    tally.add(event, &outcome, &after, run);
     Ok(())
 }
 

@@ -10,7 +10,7 @@ use crate::peer::{Fate, Scheduler};
 use std::fmt;
 use std::hint::black_box;
 
-/// Done, refused, lapsed, and one more.
+/// Done, refused, lapsed, forced.
 pub type Counts = [u8; 4];
 
 /// Stands before and after the counts that are lent.
@@ -98,19 +98,15 @@ fn of_hand_in(number: u8, before: &Image, after: &Image) -> Result<Counts, u8> {
     if number != 0 {
         return Err(number);
     }
-    let fates = [Fate::Done, Fate::Refused, Fate::Lapsed].map(number_of);
-    let new = usize::from(before[LINES])..usize::from(after[LINES]);
-    let mut added = [0; 4];
-    for fate in &after[LINE_FATE..][new] {
-        let place = fates.iter().position(|own| own == fate);
-        added[place.unwrap_or(fates.len())] += 1;
-    }
-    Ok(added)
+    let fates = [Fate::Done, Fate::Refused, Fate::Lapsed, Fate::Forced].map(number_of);
+    let lines = usize::from(before[LINES])..usize::from(after[LINES]);
+    let new = &after[LINE_FATE..][lines];
+    Ok(fates.map(|own| new.iter().filter(|fate| **fate == own).count() as u8))
 }
 
 /// Previews an event on the bytes and on the peer's state of them, with the counts filled
 /// before, and hands it in on a copy. Asks that they come to the same, and that what is
-/// added is done or refused. Gives the outcome and the bytes of the copy.
+/// added is done, refused or forced. Gives the outcome and the bytes of the copy.
 pub fn agree(
     library: Preview,
     image: &Image,
@@ -125,9 +121,9 @@ pub fn agree(
     let number = raw::submit(&mut after, event);
     let expected = Outcome::expected(of_hand_in(number, image, &after), image, fill);
     outcome.same("hand-in", &expected)?;
-    if let (0, [done, refused, rest @ ..]) = (outcome.number, outcome.added()) {
+    if let (0, [done, refused, lapsed, forced]) = (outcome.number, outcome.added()) {
         let growth = after[LINES] - image[LINES];
-        if (done + refused, rest) != (growth, [0, 0]) {
+        if (done + refused + forced, lapsed) != (growth, 0) {
             return Err(format!("{growth} lines more, {outcome}"));
         }
     }

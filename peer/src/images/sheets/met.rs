@@ -2,6 +2,7 @@
 
 use super::outcome::Outcome;
 use crate::compare::{missing, numbered};
+use crate::images::marks::Forced;
 use crate::images::runs::{Run, ORIGINS};
 use crate::peer::sheet::{records, MOST_EVENTS, MOST_RULES};
 use crate::peer::write::LONGEST;
@@ -54,11 +55,12 @@ pub struct Tally {
     pub rules: [usize; 5],
     pub higher_first: usize,
     /// Sheets written of states with an event of a fate, by its number; with a closed step,
-    /// with a broken rule, with bytes past the counts.
-    pub fates: [usize; 5],
+    /// with a broken rule, with bytes past the counts; with forced events.
+    pub fates: [usize; 6],
     pub closed: usize,
     pub broken: usize,
     pub leftovers: usize,
+    pub forced: Forced,
     /// Sheets of runs: with a record of four events among those of one; with a rule above
     /// an event; with both.
     pub sheets: usize,
@@ -89,6 +91,7 @@ impl Tally {
             self.leftovers += usize::from(leftovers);
             self.add_written(outcome.sheet());
             self.add_fates(peer);
+            self.forced.add(&run.image, run.origin);
         }
     }
 
@@ -129,9 +132,10 @@ impl Tally {
         let sets = [
             state.open(sheet),
             state.held,
-            state.done,
+            state.done & !state.forced,
             state.refused,
             state.lapsed,
+            state.forced,
         ];
         for (met, set) in self.fates.iter_mut().zip(sets) {
             *met += usize::from(set != 0);
@@ -173,6 +177,7 @@ impl Tally {
         for (name, met) in ORIGINS.iter().zip(self.origins) {
             counts.push((format!("states that are {name}"), met));
         }
+        counts.extend(self.forced.counts());
         for (name, met) in BUFFERS.iter().zip(self.buffers) {
             counts.push((format!("buffers {name}"), met));
         }
