@@ -5,21 +5,19 @@ use mathlib.Core.List.{List, [], _∷_}
 use mathlib.Core.Logic.{_≢_, inl, inr}
 use mathlib.Core.Option.{Option, none, some}
 use mathlib.Core.Path.{_≡_, refl, sym, _∙_, ap, subst}
-use lib.ListN.{length, length-replicate}
+use lib.ListN.{length}
 use Rattle.image.specs.Types.{State, Plan, Call, CallFault, Answer, Is, Made, TurnedDown, Reply}
-use Rattle.plan.specs.Fates.{blankStanding}
 use Rattle.plan.specs.Faults.{answerNumber, isTurnedDown}
-use Rattle.plan.specs.Histories.{blankEntry}
 use Rattle.plan.proofs.Tests.{either}
 use Rattle.scheduler.specs.Answers.{callFault, call}
 use Rattle.scheduler.specs.Lists.{scheduler, after}
 use Rattle.scheduler.specs.Demand.{seen, Demand3}
 use Rattle.scheduler.specs.Sheet.{readSheet, admitted}
-use Rattle.scheduler.specs.State.{firstState, Sized}
+use Rattle.scheduler.specs.State.{Sized}
 use Rattle.scheduler.proofs.Branches.{call-fault}
 use Rattle.theory.proofs.Coherence.{coherent-sound, coherent-invariant, accepted-coherent, call-keeps, sized-call, call-turned-down}
-use Rattle.theory.proofs.Demands.{demand3}
-use Rattle.theory.proofs.SheetPlans.{sheet-first, sheet-lengths}
+use Rattle.theory.proofs.Demands.{demand3, admitted-sized}
+use Rattle.theory.proofs.SheetPlans.{sheet-lengths}
 use Rattle.image.specs.Layout.{imageOf, stateIn, isImage, Whole}
 use Rattle.image.specs.Calls.{numberOn, imageAfter, numbersOn, imagesAfter, numbersOf, Hosted}
 use Rattle.image.proofs.Images.{image-is, read-back, write-back}
@@ -123,15 +121,7 @@ module _ where
 pub admitted-whole : (sheet : List ℕ) (s : State) → readSheet sheet ≡ admitted s → Whole s
 admitted-whole sheet s h =
     let q = sheet-lengths sheet s h in
-    record { sized = subst Sized (sym (sheet-first sheet s h)) first; events-len = q .0; rules-len = q .1 }
-  where
-    first : Sized (firstState (s .plan))
-    first = record {
-      standings-len = length-replicate 16 blankStanding;
-      broken-len = length-replicate 16 false;
-      closed-len = length-replicate 8 false;
-      history-len = length-replicate 16 blankEntry;
-    }
+    record { sized = admitted-sized sheet s h; events-len = q .0; rules-len = q .1 }
 
 -- a host that opens an admitted sheet and makes any calls on the bytes has what a list of these calls gives, and the
 -- guarantee with it

@@ -27,7 +27,10 @@ module _ (p : Plan) (f : Fates) (c : ℕ) (lt : c < 16) (one : ℕ) (is-one : (x
       → (x : ℕ)
       → inSet n x ≡ (k x && t x (doing f c x))
   leaves k t alike unset m n before after x = elim (ℕ-discrete x c) [
-    | yes q ↦ after x ∙ ap (λ (b : Bool). inSet m x && not b) (in-one c one lt is-one x ∙ eq-eqb x c q) ∙ and-false (inSet m x) ∙ sym (ap (λ (b : Bool). k x && b) (doing-as (t x) (alike x) f c x q ∙ unset x) ∙ and-false (k x))
+    | yes q ↦
+        after x
+        ∙ ap (λ (b : Bool). inSet m x && not b) (in-one c one lt is-one x ∙ eq-eqb x c q) ∙ and-false (inSet m x)
+        ∙ sym (ap (λ (b : Bool). k x && b) (doing-as (t x) (alike x) f c x q ∙ unset x) ∙ and-false (k x))
     | no ne ↦ after x ∙ ap (λ (b : Bool). inSet m x && not b) (in-one c one lt is-one x ∙ ne-eqb x c ne) ∙ and-true (inSet m x) ∙ before x ∙ sym (ap (λ (z : Fate). k x && t x z) (doing-other f c x ne))
   ]
 

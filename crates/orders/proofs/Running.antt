@@ -6,7 +6,7 @@ use borrow.Author.Tests.{eq-eqb, ne-eqb, eqb-true}
 use mathlib.Core.Bool.{Bool, true, false, _||_}
 use mathlib.Core.List.{List, [], _∷_}
 use mathlib.Core.Logic.{_⊎_, inl, inr}
-use mathlib.Core.Path.{_≡_, refl, sym, ap, subst}
+use mathlib.Core.Path.{_≡_, refl, sym, subst}
 use lib.Dec.{eqb}
 use lib.ListN.{length}
 use Rattle.orders.specs.Prelude.{Rule, Order, Need, Conditional, Plan}

@@ -14,13 +14,13 @@ use lib.ListN.{length}
 use Rattle.orders.specs.Prelude.{Rule, Order, Need, Conditional, Plan}
 use Rattle.plan.specs.Base.{among, anyBelow}
 use Rattle.plan.specs.Fates.{Fates, isDone, isSettled}
-use Rattle.plan.specs.Plans.{eventCount, ruleCount, ruleAt, delayable}
+use Rattle.plan.specs.Plans.{eventCount, delayable}
 use Rattle.plan.specs.Rules.{ready, bars}
 use Rattle.orders.specs.Closed.{Events, Stands, first, one, both, Closed, target}
 use Rattle.orders.specs.Runs.{doing, late, Waits, waits, Owed, needed, called, May, Run}
 use Rattle.orders.specs.Sequences.{Ahead}
 use Rattle.orders.specs.Stepwise.{follows, blocked, less, nothing, next, stepwise}
-use Rattle.plan.proofs.Tests.{and-left, and-right, or-left, or-right, or-both, or-right-true, or-either, and-not, clash, either, any-false, any-none, some-none}
+use Rattle.plan.proofs.Tests.{and-left, and-right, or-left, or-right, or-both, or-right-true, or-either, clash, either, any-false, any-none, some-none}
 use Rattle.orders.proofs.Lowest.{lowest-some, lowest-any}
 use Rattle.orders.proofs.Grounds.{refuted, each-fails, all-fail, bars-grounds, grounds-bar}
 use Rattle.orders.proofs.Doing.{doing-as, ready-unsettled, ready-stays, unsettled-other}

@@ -1,12 +1,12 @@
 -- A fate as its test says it.
 use Prim.Native.Nat.{ℕ}
 use borrow.Author.Tests.{eqb-true}
-use mathlib.Core.Bool.{Bool, true, false}
+use mathlib.Core.Bool.{Bool, true, false, not, _||_}
 use mathlib.Core.List.{[], _∷_}
 use mathlib.Core.Path.{_≡_, refl, sym, _∙_, ap}
 use lib.ListN.{getD}
 use Rattle.plan.specs.Prelude.{Fate, Open, Held, Done, Refused, Lapsed, Forced}
-use Rattle.plan.specs.Fates.{isOpen, isHeld, doneAs, fateNumber, sameFate}
+use Rattle.plan.specs.Fates.{isOpen, isHeld, isDone, isGone, doneAs, fateNumber, sameFate}
 use Rattle.plan.proofs.Tests.{clash}
 
 pub held-is : (x : Fate) → isHeld x ≡ true → x ≡ Held
@@ -24,6 +24,15 @@ open-is Done h = absurd (clash h refl)
 open-is Refused h = absurd (clash h refl)
 open-is Lapsed h = absurd (clash h refl)
 open-is Forced h = absurd (clash h refl)
+
+-- done is what is left
+pub done-else : (x : Fate) → not ((isOpen x || isHeld x) || isGone x) ≡ isDone x
+done-else Open = refl
+done-else Held = refl
+done-else Done = refl
+done-else Refused = refl
+done-else Lapsed = refl
+done-else Forced = refl
 
 -- what is the same of done and of forced is so of whatever an order gives
 pub as-done : {A : Type 0} (t : Fate → A) → t Forced ≡ t Done → (opened : Bool) → t (doneAs opened) ≡ t Done

@@ -9,7 +9,7 @@ isOpen x = elim x [ Open ↦ true | Held ↦ false | Done ↦ false | Refused �
 abbrev pub isHeld : Fate → Bool
 isHeld x = elim x [ Open ↦ false | Held ↦ true | Done ↦ false | Refused ↦ false | Lapsed ↦ false | Forced ↦ false ]
 
--- done, or forced, which counts as done (5.2, 5.8)
+-- done, or forced, which counts as done (5.2, 5.29)
 abbrev pub isDone : Fate → Bool
 isDone x = elim x [ Open ↦ false | Held ↦ false | Done ↦ true | Refused ↦ false | Lapsed ↦ false | Forced ↦ true ]
 
@@ -20,7 +20,7 @@ isGone x = elim x [ Open ↦ false | Held ↦ false | Done ↦ false | Refused �
 abbrev pub isSettled : Fate → Bool
 isSettled x = isDone x || isGone x
 
--- how an order settles an event: by force if it is open when its turn comes (5.8, 7.1)
+-- how an order settles an event: by force if it is open when its turn comes (7.12)
 abbrev pub doneAs : Bool → Fate
 doneAs true = Forced
 doneAs false = Done

@@ -44,18 +44,12 @@ pub fn is_held(x: Fate) -> bool
     }
 }
 
-// Done, or forced, which counts as done.
+// Done, or forced, which counts as done: none of the others. (Two fates that are not neighbours would be told by a table, and
+// a loop over all events made slow.)
 pub fn is_done(x: Fate) -> bool
     ensures { λ r. ⌜ r ≡ isDone x ⌝ }
 {
-    match x {
-        Fate::Open => false,
-        Fate::Held => false,
-        Fate::Done => true,
-        Fate::Refused => false,
-        Fate::Lapsed => false,
-        Fate::Forced => true,
-    }
+    !(is_open(x) | is_held(x) | is_gone(x))
 }
 
 // Refused or lapsed.

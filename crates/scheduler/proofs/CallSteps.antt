@@ -1,36 +1,30 @@
 -- What the code of the calls says at each of its ends.
-use Prim.Native.Nat.{ℕ, suc, _+_, _-_, _≤_, _<_}
-use native.Mathlib.Nat.{le-antisymm, sub-zero}
-use native.Mathlib.Numerals.{add-one}
-use native.Mathlib.Omega.{arith}
+use Prim.Native.Nat.{ℕ, _-_, _≤_, _<_}
 use borrow.Author.Tests.{not-true, not-false, le-leb, lt-leb, leb-true, leb-false}
-use mathlib.Core.Bool.{Bool, true, false, not, _&&_, _||_}
+use mathlib.Core.Bool.{Bool, true, false, not, _||_}
 use mathlib.Core.List.{[], _∷_}
 use mathlib.Core.Option.{Option, none, some}
 use mathlib.Core.Path.{_≡_, refl, sym, _∙_, ap}
-use lib.Dec.{eqb, leb}
+use lib.Dec.{leb}
 use lib.ListN.{take, getD}
 use Rattle.scheduler.specs.declared.order.Found.{Found}
 use Rattle.scheduler.specs.Prelude.{Fate, Refused, Standing, State, Unknown, AlreadyClosed, NotClosed, Incoherent, CallFault, Call, Submit, Close, Finish, Is, Made, Reply}
-use Rattle.plan.specs.Base.{anyBelow, readAt}
-use Rattle.plan.specs.Plans.{blankEvent, eventCount, ruleCount, stepOf, ruleAt, rejectable, delayable, hasEvent}
-use Rattle.scheduler.specs.State.{fateOf, closedAt, hold, settleAs, shut, breakRule}
+use Rattle.plan.specs.Base.{anyBelow}
+use Rattle.plan.specs.Plans.{eventCount, rejectable, delayable, hasEvent}
+use Rattle.scheduler.specs.State.{fateOf, closedAt, hold, settleAs, shut}
 use Rattle.plan.specs.Fates.{isOpen, isHeld, blankStanding}
-use Rattle.scheduler.specs.Rules.{stands, strains}
-use Rattle.plan.specs.Rules.{forbids, owes}
 use Rattle.scheduler.specs.Orders.{chosen, foundOrder}
-use Rattle.scheduler.specs.Calls.{settle, breakIf, recordBroken, doAlone, decide, submit, lapse, closeStep, finish}
+use Rattle.scheduler.specs.Calls.{settle, doAlone, decide, submit, lapse, closeStep, finish}
 use Rattle.plan.specs.Faults.{firstFault}
 use Rattle.scheduler.specs.Coherent.{coherent}
 use Rattle.scheduler.specs.Answers.{unclosedAt, callRows, turnsDown, callFault, idle, accept, turnedDownBy, takeCall, call}
 use Rattle.scheduler.specs.Internal.Marked.{settleAll}
-use Rattle.scheduler.specs.Internal.Turned.{lapseIf}
 use Rattle.plan.proofs.Arrays.{read-in}
 use Rattle.plan.proofs.Tests.{clash, any-false}
 use Rattle.scheduler.proofs.Laws.{fate-past}
 use Rattle.plan.proofs.Tables.{row-hit, row-miss, rows-none}
 use Rattle.scheduler.proofs.SettleLoops.{order-found, order-missing, finish-unheld}
-use Rattle.scheduler.proofs.Branches.{decide-order, decide-refuse, decide-alone, submit-same, submit-delayed, submit-decided, lapse-yes, lapse-no, turns-some, turns-none, take-fault, take-accept, call-fault, call-accept}
+use Rattle.scheduler.proofs.Branches.{decide-order, decide-refuse, decide-alone, submit-same, submit-delayed, submit-decided, turns-some, turns-none, take-fault, take-accept, call-fault, call-accept}
 
 -- what a test says, negated in the code
 module _ (is b : Bool) (same : is ≡ b) where

@@ -22,7 +22,8 @@ use Rattle.scheduler.specs.Demand.{Extends}
 use Rattle.scheduler.specs.Grounds.{NoViable, Ground, by-bar, by-submission, by-finish, Trail, end, held, ordered, alone, refused, shuts, lapsed}
 use Rattle.scheduler.specs.Doing.{Acts, Doing}
 use Rattle.plan.proofs.Tests.{clash, either}
-use Rattle.scheduler.proofs.Laws.{plan-settle, plan-break, fate-hold-other, lines-hold, sized-hold, fate-settle-other, lines-settle, sized-settle, fate-shut, lines-shut, sized-shut, fate-break, lines-break, sized-one, fate-one-other}
+use Rattle.scheduler.proofs.Laws.{plan-settle, fate-settle-other, lines-settle, sized-settle, sized-one, fate-one-other}
+use Rattle.scheduler.proofs.Laws.{plan-break, fate-hold-other, lines-hold, sized-hold, fate-shut, lines-shut, sized-shut, fate-break, lines-break}
 use Rattle.scheduler.proofs.Branches.{decide-order, decide-refuse, decide-alone, submit-delayed, submit-decided, lowestHeld, refuse-none, refuse-some, call-fault, call-accept}
 use Rattle.scheduler.proofs.Searching.{sized-doAll, ready-unsettled}
 use Rattle.scheduler.proofs.Settling.{once-none, none-once, rest-none, rest-unbarred, settle-rest, sized-settling}

@@ -4,25 +4,25 @@ use Prim.Native.Nat.{ℕ, _≤_, _<_}
 use native.Mathlib.Omega.{arith}
 use native.Mathlib.Decide.{ℕ-discrete}
 use borrow.Author.Tests.{not-true}
-use mathlib.Core.Bool.{Bool, true, false, not, _&&_, _||_}
+use mathlib.Core.Bool.{true, not}
 use mathlib.Core.List.{List, [], _∷_, List·Memᴰ, List·Memᴰ·cases-cons, List·Memᴰ·not-nil, List·Memᴰ·head, List·Memᴰ·tail}
 use mathlib.Core.Logic.{inl, inr}
 use mathlib.Core.Option.{Option, none, some}
 use mathlib.Core.Path.{_≡_, refl, sym, _∙_, ap, subst, fun-ext}
 use lib.ListN.{length}
-use Rattle.scheduler.specs.Prelude.{Rule, State}
-use Rattle.plan.specs.Base.{anyBelow, among}
+use Rattle.scheduler.specs.Prelude.{State}
+use Rattle.plan.specs.Base.{among}
 use Rattle.plan.specs.Fates.{Fates}
-use Rattle.plan.specs.Plans.{eventCount, ruleCount, ruleAt}
+use Rattle.plan.specs.Plans.{eventCount}
 use Rattle.plan.specs.Rules.{bars, makesWait, forbids, owes, ready}
-use Rattle.orders.specs.Closed.{Events, Stands, Closed, Fit, Least}
+use Rattle.orders.specs.Closed.{Events, Closed, Fit, Least}
 use Rattle.orders.specs.Runs.{doing, May, Run}
 use Rattle.orders.specs.Stepwise.{stepwise}
 use Rattle.scheduler.specs.State.{fateOf, settleAs, Sized}
 use Rattle.scheduler.specs.Rules.{stands, forbidden, owing}
 use Rattle.scheduler.specs.Orders.{mayDo, fateAtTurn, doOne, Runs, Viable, First, chosen}
 use Rattle.scheduler.specs.Internal.Hopeful.{Hopeful}
-use Rattle.plan.proofs.Tests.{and-left, and-right, and-both, and-not, or-left, or-right, or-both, clash, either, any-false, any-none}
+use Rattle.plan.proofs.Tests.{and-left, and-right, and-both, or-left, or-right, or-both, clash, either}
 use Rattle.orders.proofs.Grounds.{refuted, each-fails, all-fail, bars-grounds, grounds-bar, wait-grounds, grounds-wait, owes-grounds, grounds-owe}
 use Rattle.orders.proofs.Doing.{doing-same, doing-other}
 use Rattle.orders.proofs.Running.{inside, among-head, among-tail, among-cases, among-none, run-ready, run-closed, count-inside}

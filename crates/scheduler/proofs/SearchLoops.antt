@@ -10,7 +10,7 @@ use mathlib.Core.Logic.{inl, inr}
 use mathlib.Core.Option.{Option, none, some, Option·map}
 use mathlib.Core.Path.{_≡_, refl, sym, _∙_, ap, ap₂, subst, fun-ext}
 use lib.Dec.{eqb, ltb}
-use lib.ListN.{length, getD, set, replicate}
+use lib.ListN.{length, getD, set}
 use Rattle.scheduler.specs.declared.order.Found.{Found}
 use Rattle.scheduler.specs.Prelude.{take, State}
 use Rattle.plan.specs.Fates.{Fates, isOpen}
@@ -25,7 +25,7 @@ use Rattle.members.specs.Growing.{Closes}
 use Rattle.members.specs.Lacking.{Spared}
 use Rattle.scheduler.specs.State.{fateOf, settleAs, Sized}
 use Rattle.scheduler.specs.Rules.{stands}
-use Rattle.scheduler.specs.Orders.{fateAtTurn, doOne, chosen, opens, noOrder, foundOrder}
+use Rattle.scheduler.specs.Orders.{doOne, chosen, opens, noOrder, foundOrder}
 use Rattle.scheduler.specs.Internal.Hopeful.{Hopeful}
 use Rattle.scheduler.specs.Internal.Placed.{blankOrder, placed, foundFrom}
 use Rattle.plan.specs.Plans.{eventCount}

@@ -14,7 +14,7 @@ use Rattle.theory.proofs.Types.{Fate, Open, Held, Done, Refused, Lapsed
 use Rattle.theory.proofs.Types.{Standing, Entry, State, CallFault, Unknown, AlreadyClosed, NotClosed, Reply, Call, Submit, Close, Finish}
 use Rattle.plan.specs.Base.{anyBelow, allBelow, among, thoseBelow}
 use Rattle.plan.specs.Plans.{eventCount, ruleCount, stepOf, ruleAt, hasEvent}
-use Rattle.scheduler.specs.State.{firstState, fateOf, brokenAt, closedAt, lines, hold, shut, settleAs}
+use Rattle.scheduler.specs.State.{firstState, fateOf, brokenAt, closedAt, lines, hold, shut, settleAs, Sized}
 use Rattle.plan.specs.Fates.{blankStanding, isOpen, isHeld, isDone, isSettled}
 use Rattle.plan.specs.Histories.{blankEntry, fateIf, fatesIn, doneInTurn, holds, declaredOnly}
 use Rattle.plan.specs.Rules.{owes}
@@ -53,31 +53,32 @@ pub record ListInvariant (p : Plan) (o : Observed) (s : State) : Type 0 where
   pub finished : wasFinished o ≡ true → (e : ℕ) → e < eventCount p → isSettled (fateOf s e) ≡ true
 
 -- the first state
-module _ (p : Plan) (sd : Sound p) where
-  all-open : (e : ℕ) → fateOf (firstState p) e ≡ Open
+module _ (p : Plan) where
+  pub all-open : (e : ℕ) → fateOf (firstState p) e ≡ Open
   all-open e = ap (λ (v : Standing). v .fate) (read-blank 16 blankStanding e)
 
+  pub first-sized : Sized (firstState p)
+  first-sized = record {
+    standings-len = length-replicate 16 blankStanding;
+    broken-len = length-replicate 16 false;
+    closed-len = length-replicate 8 false;
+    history-len = length-replicate 16 blankEntry;
+  }
+
+module _ (p : Plan) (sd : Sound p) where
   unbroken : (i : ℕ) → brokenAt (firstState p) i ≡ false
   unbroken i = read-blank 16 false i
 
   none-done : (e : ℕ) → isDone (fateOf (firstState p) e) ≡ false
-  none-done e = ap isDone (all-open e)
+  none-done e = ap isDone (all-open p e)
 
   first-listing : HistoryListed p (firstState p)
   unfolding fatesIn declaredOnly
   first-listing = record {
-    shape = record {
-      same-plan = refl;
-      sized = record {
-        standings-len = length-replicate 16 blankStanding;
-        broken-len = length-replicate 16 false;
-        closed-len = length-replicate 8 false;
-        history-len = length-replicate 16 blankEntry;
-      };
-    };
+    shape = record { same-plan = refl; sized = first-sized p };
     few = sd .few-events;
-    tally = sym (count-zero (eventCount p) _ (λ e l. ap isSettled (all-open e)));
-    listed = λ e l. sym (ap (λ x. fateIf (isSettled x) x) (all-open e));
+    tally = sym (count-zero (eventCount p) _ (λ e l. ap isSettled (all-open p e)));
+    listed = λ e l. sym (ap (λ x. fateIf (isSettled x) x) (all-open p e));
     only = refl;
   }
 
@@ -99,7 +100,7 @@ module _ (p : Plan) (sd : Sound p) where
     listing = first-listing;
     obeyed = record { turn = λ i a b l n r. refl; paid = λ i l n. first-unpaid (ruleAt p i) };
     quiet = λ i l n. first-owes (ruleAt p i);
-    held = λ e l h. absurd (clash (ap isHeld h) (ap isHeld (all-open e)));
+    held = λ e l h. absurd (clash (ap isHeld h) (ap isHeld (all-open p e)));
     still = λ e l q. read-blank 8 false (stepOf p e);
   }
 
@@ -107,15 +108,15 @@ module _ (p : Plan) (sd : Sound p) where
   unfolding among anyCall
   at-first = record {
     invariant = first-invariant;
-    beyond = record { unused = λ e ge. all-open e; blank = λ i ge. get-blank 16 blankEntry i };
+    beyond = record { unused = λ e ge. all-open p e; blank = λ i ge. get-blank 16 blankEntry i };
     strict = record {
       first = λ i a b l r d h. absurd (clash h (none-done b));
       weak = λ i l n. absurd (clash n (unbroken i));
     };
-    rest = λ e q h v. clash (ap isHeld h) (ap isHeld (all-open e));
+    rest = λ e q h v. clash (ap isHeld h) (ap isHeld (all-open p e));
     agrees = record {
       history = refl;
-      waits = λ e u. all-open e;
+      waits = λ e u. all-open p e;
       closed = λ k l. read-blank 8 false k;
       recorded = λ i l. unbroken i;
     };
@@ -585,7 +586,10 @@ pub answers-accepted : (bytes : List ℕ) (s : State) (cs : List Call) (c : Call
     ≡ not (accepted (s .plan) (observeAll (s .plan) nothingYet (seen scheduler s cs)) c)
 answers-accepted bytes s cs c read = answer-accepted (sheet-sound bytes s read) (at-list bytes s cs read) c
 
--- an admitted sheet's first state passes number 12
+-- an admitted sheet's first state has arrays of their lengths, and passes number 12
+pub admitted-sized : (bytes : List ℕ) (s : State) → readSheet bytes ≡ admitted s → Sized s
+admitted-sized bytes s read = subst Sized (sym (sheet-first bytes s read)) (first-sized (s .plan))
+
 pub admitted-coherent : (bytes : List ℕ) (s : State) → readSheet bytes ≡ admitted s → coherent s ≡ true
 unfolding after
 admitted-coherent bytes s read = invariant-coherent (sheet-sound bytes s read) (at-list bytes s [] read .invariant)

@@ -1,7 +1,8 @@
 -- S-5: what is forced. Only an event that is open at its turn in an order, which is forcible; and never the event handed in.
-use Prim.Native.Nat.{ℕ, _≤_, _<_}
+use Prim.Native.Nat.{ℕ}
 use native.Mathlib.Omega.{arith}
 use native.Mathlib.Decide.{ℕ-discrete, decLt}
+use borrow.Author.Tests.{eq-eqb}
 use mathlib.Core.Bool.{Bool, true, false, not, _&&_, _||_}
 use mathlib.Core.List.{List, [], _∷_, _++_}
 use mathlib.Core.Logic.{_⊎_, inl, inr}
@@ -9,22 +10,27 @@ use mathlib.Core.Option.{Option, none, some}
 use mathlib.Core.Path.{_≡_, refl, sym, _∙_, ap, subst}
 use Rattle.theory.proofs.Types.{Fate, Open, Held, Done, Refused, Lapsed, Forced, Plan, State, CallFault, Reply, Call, Submit}
 use Rattle.plan.specs.Fates.{isOpen, isHeld, doneAs, sameFate}
-use Rattle.plan.specs.Plans.{ruleCount, forcible}
+use Rattle.plan.specs.Plans.{forcible}
 use Rattle.plan.specs.Rules.{ready}
-use Rattle.scheduler.specs.State.{fateOf, hold, settleAs, shut, Sized}
+use Rattle.scheduler.specs.State.{fateOf, hold, settleAs, Sized}
 use Rattle.scheduler.specs.Rules.{forbidden}
 use Rattle.scheduler.specs.Orders.{mayDo, fateAtTurn, doOne, doAll, Runs, First}
-use Rattle.scheduler.specs.Calls.{doAlone, submit}
-use Rattle.scheduler.specs.Answers.{callFault, accept, call}
-use Rattle.scheduler.specs.Lists.{scheduler}
+use Rattle.scheduler.specs.Calls.{submit}
+use Rattle.scheduler.specs.Answers.{callFault, accept}
+use Rattle.scheduler.specs.Lists.{scheduler, after}
+use Rattle.scheduler.specs.Demand.{submits, anyCall}
 use Rattle.scheduler.specs.Grounds.{Trail, end, held, ordered, alone, refused, shuts, lapsed}
-use Rattle.theory.specs.Marks.{ForcedBy, Forces}
-use Rattle.plan.proofs.Tests.{and-left, and-right, or-either, clash, either}
+use Rattle.theory.specs.Marks.{ForcedBy, Forces, Reports}
+use Rattle.plan.proofs.Tests.{and-left, and-right, or-either, or-right-true, clash, either}
 use Rattle.plan.proofs.Fates.{as-done, open-is}
-use Rattle.scheduler.proofs.Laws.{fate-past, plan-settle, fate-settle-same, fate-settle-either, fate-settle-other, sized-settle, plan-one, sized-one, plan-hold, fate-hold-same, fate-hold-other, sized-hold, plan-shut, fate-shut, sized-shut}
+use Rattle.scheduler.proofs.Laws.{fate-past, plan-settle, fate-settle-same, fate-settle-either, fate-settle-other, sized-settle, plan-one, sized-one}
+use Rattle.scheduler.proofs.Laws.{plan-hold, fate-hold-same, fate-hold-other, sized-hold, plan-shut, fate-shut, sized-shut}
 use Rattle.scheduler.proofs.Searching.{plan-doAll, sized-doAll, ready-bound}
 use Rattle.scheduler.proofs.Branches.{submit-same, call-fault, call-accept}
 use Rattle.scheduler.proofs.Doing.{alone-plan, alone-fate}
+use Rattle.theory.proofs.SheetPlans.{sheet-first}
+use Rattle.theory.proofs.Coherence.{sized-call}
+use Rattle.theory.proofs.Demands.{all-open, admitted-sized}
 use Rattle.scheduler.proofs.Grounds.{sized-alone, held-trail, submit-low, grounded}
 
 -- a fate that is not forced
@@ -199,8 +205,61 @@ not-itself s e z taken h = elim (either (isOpen (fateOf s e))) [
     differs-open : Held ≡ Open → ⊥
     differs-open q = clash refl (ap isHeld q)
 
+-- an event that somebody has handed in and that was not forced: held, or done
+abbrev heard : Fate → Bool
+heard x = isHeld x || sameFate x Done
+
+settle-heard : (x : Fate) (s : State) (d e : ℕ) → Sized s → heard x ≡ false → heard (fateOf (settleAs x s d) e) ≡ true → heard (fateOf s e) ≡ true
+settle-heard x s d e z n h = elim (fate-settle-either x s d e z) [ inl q ↦ absurd (clash (sym (ap heard q) ∙ h) n) | inr q ↦ sym (ap heard q) ∙ h ]
+
+-- an order does only what is held
+order-heard : (s : State) (o : List ℕ) → Sized s → Runs s o → (e : ℕ) → heard (fateOf (doAll s o) e) ≡ true → heard (fateOf s e) ≡ true
+unfolding doAll mayDo ready
+order-heard s [] z r e h = h
+order-heard s (c ∷ o) z r e h =
+    let later = order-heard (doOne s c) o (sized-one s c z) (r .2) e h in
+    elim (ℕ-discrete e c) [
+      | no ne ↦ sym (ap heard (fate-settle-other (fateAtTurn s c) s c e ne)) ∙ later
+      | yes q ↦
+          let hand = and-left (isHeld (fateOf s c) || (isOpen (fateOf s c) && forcible (s .plan) c)) (not (forbidden s c)) (r .1) in
+          elim (or-either (isHeld (fateOf s c)) _ hand) [
+            | inl w ↦ ap (λ i. heard (fateOf s i)) q ∙ ap (λ (b : Bool). b || sameFate (fateOf s c) Done) w
+            | inr w ↦
+                let opened = and-left (isOpen (fateOf s c)) (forcible (s .plan) c) w in
+                let forced : fateOf (doOne s c) c ≡ Forced = fate-settle-same (fateAtTurn s c) s c z (ready-bound s c (r .1)) ∙ ap doneAs opened in
+                absurd (clash (sym (ap (λ i. heard (fateOf (doOne s c) i)) q) ∙ later) (ap heard forced))
+          ]
+    ]
+
+-- along a trail only the event handed in comes to be held or done
+trail-heard : {c : Call} {s t : State} → Trail c s t → Sized s → (e : ℕ) → heard (fateOf t e) ≡ true → (heard (fateOf s e) ≡ true) ⊎ (c ≡ Submit e)
+trail-heard end z e h = inl h
+trail-heard (held {s} d p o r) z e h = elim (ℕ-discrete e d) [
+  | yes q ↦ inr (p ∙ ap Submit (sym q))
+  | no ne ↦ elim (trail-heard r (sized-hold s d z) e h) [ inl f ↦ inl (sym (ap heard (fate-hold-other s d e ne)) ∙ f) | inr f ↦ inr f ]
+]
+trail-heard (ordered {s} d o w f r) z e h =
+    elim (trail-heard r (sized-doAll s o z) e h) [ inl g ↦ inl (order-heard s o z (f .viable .runs) e g) | inr g ↦ inr g ]
+trail-heard (alone {s} d p u j k n r) z e h = elim (ℕ-discrete e d) [
+  | yes q ↦ inr (p ∙ ap Submit (sym q))
+  | no ne ↦ elim (trail-heard r (sized-alone s d z) e h) [ inl f ↦ inl (sym (ap heard (alone-fate s d e ∙ fate-settle-other Done s d e ne)) ∙ f) | inr f ↦ inr f ]
+]
+trail-heard (refused {s} d g r) z e h =
+    elim (trail-heard r (sized-settle Refused s d z) e h) [ inl f ↦ inl (settle-heard Refused s d e z refl f) | inr f ↦ inr f ]
+trail-heard (shuts {s} k p r) z e h =
+    elim (trail-heard r (sized-shut s k z) e h) [ inl f ↦ inl (sym (ap heard (fate-shut s k e)) ∙ f) | inr f ↦ inr f ]
+trail-heard (lapsed {s} d p o r) z e h =
+    elim (trail-heard r (sized-settle Lapsed s d z) e h) [ inl f ↦ inl (settle-heard Lapsed s d e z refl f) | inr f ↦ inr f ]
+
 pub forces : Forces scheduler
-forces = record { only = λ s c e z h. trail-forces (grounded s c z) z e h; others = λ s e z h. own s e z h (callFault s (Submit e)) refl }
+forces = record {
+  only = λ s c e z h. trail-forces (grounded s c z) z e h;
+  others = λ s e z h. own s e z h (callFault s (Submit e)) refl;
+  reported = λ s c e z opened done. elim (trail-heard (grounded s c z) z e (ap heard done)) [
+    | inl h ↦ absurd (clash h (ap heard opened))
+    | inr h ↦ h
+  ];
+}
   where
     taken : (s : State) (e : ℕ) → accept s (Submit e) .state ≡ submit s e
     taken s e = unfold accept in refl
@@ -215,3 +274,22 @@ forces = record { only = λ s c e z h. trail-forces (grounded s c z) z e h; othe
     own s e z h none q =
         let same : scheduler s (Submit e) ≡ submit s e = ap (λ (r : Reply). r .state) (call-accept s (Submit e) q) ∙ taken s e in
         not-itself s e z q (ap (λ (t : State). fateOf t e) (sym same) ∙ h)
+
+-- over a list
+list-heard : (s : State) (cs : List Call) → Sized s → (e : ℕ) → heard (fateOf (after scheduler s cs) e) ≡ true → (heard (fateOf s e) ≡ true) ⊎ (anyCall (submits e) cs ≡ true)
+unfolding after anyCall
+list-heard s [] z e h = inl h
+list-heard s (c ∷ cs) z e h = elim (list-heard (scheduler s c) cs (sized-call s c z) e h) [
+  | inr f ↦ inr (rw f (or-right-true (submits e c)))
+  | inl f ↦ elim (trail-heard (grounded s c z) z e f) [
+    | inl g ↦ inl g
+    | inr g ↦ inr (rw g (rw (eq-eqb e e refl)))
+  ]
+]
+
+pub reports : Reports scheduler
+reports bytes s cs e read done =
+    elim (list-heard s cs (admitted-sized bytes s read) e (ap heard done)) [
+      | inr h ↦ h
+      | inl h ↦ absurd (clash h (ap (λ (u : State). heard (fateOf u e)) (sheet-first bytes s read) ∙ ap heard (all-open (s .plan) e)))
+    ]

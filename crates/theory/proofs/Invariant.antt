@@ -19,13 +19,14 @@ use Rattle.scheduler.specs.Orders.{fateAtTurn, doOne, Runs, Viable, doAll}
 use Rattle.scheduler.specs.Calls.{Turn, refuses, does, Turns, stay, turn, Settles, settleOnce, settle, lapse, closeStep, Refusing, nothing-held, refuse-next, finish}
 use Rattle.plan.proofs.Tests.{clash, either, and-left, and-both}
 use Rattle.plan.proofs.Fates.{open-is}
+use Rattle.orders.proofs.Doing.{gone-settled}
 use Rattle.scheduler.proofs.Laws.{turn-settled, fate-settle-other, closed-settle, broken-settle, plan-shut, fate-shut, broken-shut, history-shut, len-shut, lines-shut, closed-shut-other, sized-shut}
 use Rattle.scheduler.proofs.Branches.{lapse-yes, lapse-no}
 use Rattle.scheduler.proofs.Searching.{ready-unsettled}
 use Rattle.scheduler.proofs.Settling.{once-some, rest-none, settle-turns, settle-rest, finish-finishes}
 use Rattle.theory.proofs.SoundPlans.{Sound}
 use Rattle.theory.proofs.HistoryInvariant.{Shape, HistoryListed, BlankBeyond, listing-alike, same-events, fate-then, lines-then, listing-settle, beyond-settle}
-use Rattle.theory.proofs.RuleInvariant.{RulesObeyed, Strict, Quiet, SameToRules, obeyed-same, quiet-same, quiet-of, obeyed-do, strict-do, obeyed-drop, strict-drop, quiet-drop, gone-settled}
+use Rattle.theory.proofs.RuleInvariant.{RulesObeyed, Strict, Quiet, SameToRules, obeyed-same, quiet-same, quiet-of, obeyed-do, strict-do, obeyed-drop, strict-drop, quiet-drop}
 
 pub held-unsettled : {x : Fate} → x ≡ Held → isSettled x ≡ false
 held-unsettled h = ap isSettled h

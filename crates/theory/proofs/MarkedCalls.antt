@@ -1,38 +1,37 @@
 -- S-5: the mark decides nothing. A call on a state and one on the same state without marks are turned down alike or taken
 -- alike, in lists too; number 12 asks only that the marks of fates and lines agree.
-use Prim.Native.Nat.{ℕ, zero, suc, _≤_}
+use Prim.Native.Nat.{ℕ, zero, suc}
 use borrow.Author.Tests.{eq-eqb}
 use mathlib.Core.Bool.{Bool, true, false, not, _&&_, _||_}
 use mathlib.Core.List.{List, [], _∷_, _++_, map}
 use mathlib.Core.Option.{Option, none, some}
-use mathlib.Core.Path.{_≡_, refl, sym, _∙_, ap, ap₂, subst, fun-ext}
+use mathlib.Core.Path.{_≡_, refl, sym, _∙_, ap, ap₂, fun-ext}
 use lib.Dec.{eqb, ltb, leb}
 use lib.ListN.{take, replicate}
 use Rattle.theory.proofs.Types.{Fate, Open, Held, Done, Refused, Lapsed, Forced, Rule, Order, Need, Conditional, Plan, Entry, State, CallFault, Incoherent, TurnedDown, Reply, Call, Submit, Close, Finish}
-use Rattle.plan.specs.declared.answer.Answer.{Answer}
 use Rattle.plan.specs.declared.answer.Answer.the-variants.{Is, Made}
 use Rattle.plan.specs.Base.{anyBelow, allBelow, readAt}
 use Rattle.plan.specs.Fates.{isOpen, isHeld, isDone, isSettled, fateNumber, sameFate, blankStanding}
 use Rattle.plan.specs.Plans.{emptyPlan, eventCount, ruleCount, ruleAt, stepOf, delayable, hasEvent}
-use Rattle.plan.specs.Rules.{soundEvent, soundRule, owes}
+use Rattle.plan.specs.Rules.{soundEvent, soundRule}
 use Rattle.plan.specs.Histories.{blankEntry, fateIf, fatesIn, anyDone, doneIn, doneInTurn, holds, declaredOnly, sameFates, listedAs}
 use Rattle.plan.specs.Faults.{firstFault}
 use Rattle.plan.specs.Records.{addEvent}
 use Rattle.scheduler.specs.State.{firstState, fateOf, brokenAt, closedAt, lineCount, lines, Sized}
 use Rattle.scheduler.specs.Coherent.{coherentEvent, coherentRule, coherent}
-use Rattle.scheduler.specs.Answers.{unclosedAt, callRows, callFault, accept, turnedDownBy, takeCall, call}
+use Rattle.scheduler.specs.Answers.{unclosedAt, callRows, callFault, accept, takeCall, call}
 use Rattle.scheduler.specs.Lists.{scheduler, after}
 use Rattle.scheduler.specs.Sheet.{readSheet, admitted}
 use Rattle.scheduler.specs.Demand.{seen}
-use Rattle.theory.specs.Marks.{forgetFate, forgetLine, forgetAnswer, forget, forgetReply, Alike, forgetStory, unmarked, ListAlike}
+use Rattle.theory.specs.Marks.{forgetFate, forgetLine, forget, forgetReply, Alike, forgetStory, unmarked, ListAlike}
 use Rattle.plan.proofs.Tests.{and-both, all-at, all-of}
 use Rattle.plan.proofs.Lines.{fates-same}
 use Rattle.scheduler.proofs.Branches.{take-fault, take-accept, call-fault, call-accept}
 use Rattle.theory.proofs.Conjunctions.{and-four, and-all-four}
 use Rattle.theory.proofs.SheetPlans.{sheet-first}
 use Rattle.theory.proofs.Coherence.{sized-call, call-coherent, after-coherent}
-use Rattle.theory.proofs.Demands.{admitted-coherent}
-use Rattle.theory.proofs.Marks.{Like, owes-kind, plan-like, broken-like, closed-like, fate-like, kind-like, submit-like, close-like, finish-like, forget-fate}
+use Rattle.theory.proofs.Demands.{admitted-sized, admitted-coherent}
+use Rattle.theory.proofs.Marks.{Like, owes-kind, plan-like, closed-like, fate-like, kind-like, submit-like, close-like, finish-like, forget-fate}
 
 -- forgetting twice forgets no more
 fate-twice : (x : Fate) → forgetFate (forgetFate x) ≡ forgetFate x
@@ -242,14 +241,11 @@ first-forgotten : (p : Plan) → forget (firstState p) ≡ firstState p
 unfolding forget
 first-forgotten p = refl
 
-first-sized : (p : Plan) → Sized (firstState p)
-first-sized p = record { standings-len = refl; broken-len = refl; closed-len = refl; history-len = refl }
-
 pub list-alike : (bytes : List ℕ) (s : State) (cs : List Call) → readSheet bytes ≡ admitted s → ListAlike s cs
 list-alike bytes s cs read =
     let first = sheet-first bytes s read in
     let plain : forget s ≡ s = ap forget first ∙ first-forgotten (s .plan) ∙ sym first in
-    let z : Sized s = subst Sized (sym first) (first-sized (s .plan)) in
+    let z = admitted-sized bytes s read in
     let h = admitted-coherent bytes s read in
     let both = list-forgotten s cs z h in
     record {

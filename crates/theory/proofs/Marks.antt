@@ -1,18 +1,18 @@
 -- S-5: two states that are the same but for marks stay so under every write and every call that is taken.
 use Prim.Native.Nat.{ℕ, zero, suc}
 use mathlib.Core.Bool.{Bool, true, false, not, _&&_, _||_, cond}
-use mathlib.Core.List.{List, [], _∷_, _++_, map}
+use mathlib.Core.List.{List, [], _∷_, map}
 use mathlib.Core.Option.{Option, none, some, Option·map}
-use mathlib.Core.Path.{_≡_, refl, sym, _∙_, ap, ap₂, subst, fun-ext}
+use mathlib.Core.Path.{_≡_, refl, sym, _∙_, ap, ap₂, fun-ext}
 use lib.Dec.{eqb, ltb}
-use lib.ListN.{getD, set, take}
-use Rattle.theory.proofs.Types.{Fate, Open, Held, Done, Refused, Lapsed, Forced, Rule, Order, Need, Conditional, Plan, Entry, State}
+use lib.ListN.{getD, set, List·getD-map}
+use Rattle.theory.proofs.Types.{Fate, Open, Held, Done, Refused, Lapsed, Forced, Rule, Order, Need, Conditional, Plan, State}
 use Rattle.plan.specs.declared.fate.Standing.{Standing}
 use Rattle.plan.specs.Base.{anyBelow, when, firstOf, lowest, readAt, storeAt}
-use Rattle.plan.specs.Fates.{Fates, isOpen, isHeld, isDone, isGone, isSettled, blankStanding}
+use Rattle.plan.specs.Fates.{Fates, isOpen, isHeld, isDone, isGone, blankStanding}
 use Rattle.plan.specs.Plans.{eventCount, ruleCount, ruleAt, stepOf, rejectable, delayable}
 use Rattle.plan.specs.Rules.{bars, makesWait, forbids, owes, ready}
-use Rattle.scheduler.specs.State.{fateOf, brokenAt, closedAt, lineCount, hold, settleAs, shut, breakRule}
+use Rattle.scheduler.specs.State.{fateOf, lineCount, hold, settleAs, shut, breakRule}
 use Rattle.scheduler.specs.Rules.{stands, barred, forbidden, owing, strains}
 use Rattle.scheduler.specs.Orders.{mayDo, fateAtTurn, doOne, doAll, orderOf, chosen}
 use Rattle.scheduler.specs.Calls.{toRefuse, toDo, settleOnce, settleUpTo, settle, breakIf, recordBroken, doAlone, decide, submit, lapse, closeStep, refuseHeld, finish}
@@ -21,12 +21,7 @@ use Rattle.plan.proofs.Tests.{some-none}
 use Rattle.plan.proofs.Fates.{as-done}
 use Rattle.scheduler.proofs.Branches.{upTo-none, upTo-some, decide-order, decide-refuse, decide-alone, submit-same, submit-delayed, submit-decided, lapse-yes, lapse-no, lowestHeld, refuse-none, refuse-some}
 
--- a list read, written and cut after a map
-pub map-get : {A B : Type 0} (f : A → B) (l : List A) (i : ℕ) (d : A) → getD (map f l) i (f d) ≡ f (getD l i d)
-map-get f [] i d = refl
-map-get f (x ∷ l) zero d = refl
-map-get f (x ∷ l) (suc i) d = map-get f l i d
-
+-- a list written after a map
 map-set : {A B : Type 0} (f : A → B) (l : List A) (i : ℕ) (a : A) → map f (set l i a) ≡ set (map f l) i (f a)
 map-set f [] i a = refl
 map-set f (x ∷ l) zero a = refl
@@ -127,7 +122,7 @@ unfolding forget
 forget-fate s e = go (ltb e 16)
   where
     go : (b : Bool) → cond b (getD (map plainStanding (s .standings)) e blankStanding) blankStanding .fate ≡ forgetFate (cond b (getD (s .standings) e blankStanding) blankStanding .fate)
-    go true = ap (λ (v : Standing). v .fate) (map-get plainStanding (s .standings) e blankStanding)
+    go true = ap (λ (v : Standing). v .fate) (List·getD-map plainStanding (s .standings) e blankStanding)
     go false = refl
 
 -- states that are the same but for marks

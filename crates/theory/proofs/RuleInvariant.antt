@@ -22,6 +22,7 @@ use Rattle.scheduler.specs.Demand.{unbreakable}
 use Rattle.plan.proofs.Tests.{clash, either, or-left, or-right, or-both, and-right, and-both, and-not, any-false}
 use Rattle.plan.proofs.Lines.{turn-append, done-settled-if}
 use Rattle.plan.proofs.RuleReads.{two-named, ThreeNamed, triple-named}
+use Rattle.orders.proofs.Doing.{done-settled, gone-settled}
 use Rattle.scheduler.proofs.Laws.{turn-done, turn-settled, fate-settle-other, broken-settle}
 use Rattle.scheduler.proofs.Searching.{ready-unsettled}
 use Rattle.theory.proofs.SoundPlans.{Sound, rule-named}
@@ -263,7 +264,7 @@ not-done Forced h = refl
 module _ {p : Plan} {s : State} (sd : Sound p) (x : Fate) (is-done : isDone x ≡ true) (e : ℕ) (k : HistoryListed p s)
     (w : RulesObeyed p s) (lt : e < eventCount p) (un : isSettled (fateOf s e) ≡ false) where
   is-settled : isSettled x ≡ true
-  is-settled = rw is-done
+  is-settled = done-settled x is-done
 
   is-kept : isGone x ≡ false
   is-kept = not-done x is-done
@@ -386,14 +387,6 @@ not-gone Done h = sym h
 not-gone Refused h = refl
 not-gone Lapsed h = refl
 not-gone Forced h = sym h
-
-pub gone-settled : (x : Fate) → isGone x ≡ true → isSettled x ≡ true
-gone-settled Open h = h
-gone-settled Held h = h
-gone-settled Done h = refl
-gone-settled Refused h = refl
-gone-settled Lapsed h = refl
-gone-settled Forced h = refl
 
 -- refusing an event, or letting it lapse, while no rule owes
 module _ {p : Plan} {s : State} (x : Fate) (gx : isGone x ≡ true) (e : ℕ) (k : HistoryListed p s)

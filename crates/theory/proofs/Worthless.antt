@@ -6,7 +6,7 @@ use mathlib.Core.List.{List, [], _∷_, List·Memᴰ·not-nil, List·Memᴰ·hea
 use mathlib.Core.Option.{none, some}
 use mathlib.Core.Logic.{_≢_, inl, inr}
 use mathlib.Core.Path.{_≡_, refl, sym, _∙_, ap, subst}
-use Rattle.theory.proofs.Types.{Need, Fate, Done, Refused, Order, State, Call, Submit, Close, Finish}
+use Rattle.theory.proofs.Types.{Need, Fate, Open, Done, Refused, Forced, Order, State, Call, Submit, Close, Finish}
 use Rattle.plan.specs.Base.{anyBelow, allBelow, thoseBelow, among, firstOf, tabulate, lowest}
 use Rattle.plan.specs.Plans.{emptyPlan, eventCount, ruleCount, rejectable, delayable, hasEvent}
 use Rattle.scheduler.specs.State.{firstState, emptyState, fateOf, closedAt, hold, settleAs, shut, Sized}
@@ -15,7 +15,7 @@ use Rattle.plan.specs.Rules.{owes, soundRule, named, enforceable, soundEvent, b
 use Rattle.scheduler.specs.Rules.{barred, forbidden, owing, strains}
 use Rattle.plan.specs.Histories.{anyDone, doneIn, doneInTurn, holds, fatesIn, declaredOnly, sameFates, listedAs}
 use Rattle.scheduler.specs.Orders.{mayDo, fateAtTurn, doOne, doAll, Viable, orderOf, chosen, someOrder, hasViable}
-use Rattle.scheduler.specs.Calls.{lapse, toRefuse, toDo, settleOnce, settleUpTo, settle, doAlone, submit}
+use Rattle.scheduler.specs.Calls.{lapse, toRefuse, toDo, settleOnce, settleUpTo, settle, doAlone, submit, decide}
 use Rattle.plan.specs.Faults.{firstFault}
 use Rattle.scheduler.specs.Coherent.{coherentRule, coherentEvent, coherent}
 use Rattle.scheduler.specs.Answers.{callFault, accept, call}
@@ -28,6 +28,8 @@ use Rattle.scheduler.specs.Grounds.{Ground, by-bar, by-submission, by-finish, T
 use Rattle.plan.proofs.Tests.{clash, any-none}
 use Rattle.scheduler.proofs.Laws.{turn-done, plan-hold, plan-one, sized-hold, sized-one, fate-hold-same, fate-settle-either}
 use Rattle.scheduler.specs.Doing.{Acts, Doing}
+use Rattle.theory.specs.Marks.{forget, unmarked, Forces, Reports}
+use Rattle.theory.proofs.Demands.{first-sized}
 use Rattle.scheduler.proofs.Doing.{settled-fixed, rest-held}
 
 -- sheets of one event that is rejectable and delayable, and of two with an order
@@ -287,3 +289,33 @@ not-doing-lenient d =
     let sized : Sized needHeld = record { standings-len = refl; broken-len = refl; closed-len = refl; history-len = refl } in
     let after-sized : Sized t = record { standings-len = refl; broken-len = refl; closed-len = refl; history-len = refl } in
     clash refl (rest-held t after-sized (d needHeld (Close 1) sized .rests (acts-close needHeld 1 refl)) 0 (omega arith) refl .0)
+
+-- does what it should and marks nothing: in case D event 1 is done, and nobody has handed it in
+abbrev needForced : List ℕ
+needForced = 1 ∷ 0 ∷ 1 ∷ 1 ∷ 1 ∷ 1 ∷ 3 ∷ 0 ∷ 1 ∷ 5 ∷ []
+
+abbrev needFirst : State
+needFirst = firstState (addRule (addEvent (addEvent emptyPlan 0 1) 1 1) (Need 0 1))
+
+read-forced : readSheet needForced ≡ admitted needFirst
+unfolding addEvent addRule declare recordFault readFrom readPlan ending sheetPlan readSheet firstFault named
+    enforceable ruleOf
+read-forced = refl
+
+pub not-unmarked : Reports unmarked → ⊥
+unfolding shownBy scheduled soundRule named enforceable owes holds doneInTurn doneIn anyDone coherentRule decide submit
+    forget
+not-unmarked r = clash (r needForced needFirst (Submit 0 ∷ []) 1 read-forced refl) refl
+
+-- forces whatever is handed in
+unfoldable pub forcer : Scheduler
+forcer s (Submit e) = settleAs Forced s e
+forcer s (Close k) = scheduler s (Close k)
+forcer s Finish = scheduler s Finish
+
+pub not-forcer : Forces forcer → ⊥
+unfolding addEvent settleAs forcer
+not-forcer f =
+    let z : _≡_ {A = Fate} Open Forced = f .others one 0 (first-sized (one .plan)) refl in
+    let w : _≡_ {A = ℕ} 0 1 = cc in
+    omega arith

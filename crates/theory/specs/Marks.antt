@@ -18,8 +18,9 @@ use Rattle.plan.specs.Plans.{forcible}
 use Rattle.scheduler.specs.State.{fateOf, lineCount, Sized}
 use Rattle.scheduler.specs.Orders.{First, doAll}
 use Rattle.scheduler.specs.Answers.{callFault, call}
+use Rattle.scheduler.specs.Sheet.{readSheet, admitted}
 use Rattle.scheduler.specs.Lists.{Scheduler, scheduler, after}
-use Rattle.scheduler.specs.Demand.{Story, seen}
+use Rattle.scheduler.specs.Demand.{Story, seen, submits, anyCall}
 use Rattle.scheduler.specs.Grounds.{Trail}
 
 -- forced read as done (7.13)
@@ -80,8 +81,16 @@ pub record ForcedBy (c : Call) (s : State) (e : ℕ) : Type 0 where
   pub order : First at for (earlier ++ (e ∷ later))
   pub opened : fateOf (doAll at earlier) e ≡ Open
 
--- of any scheduler: an event that is forced after a call was so before it, or is forced by it like this; and a hand-in does
--- not force the event that it hands in (12.6)
+-- of any scheduler: an event that is forced after a call was so before it, or is forced by it like this; a hand-in does not
+-- force the event that it hands in; and an event that is open before a call and done after it was handed in by it (12.6)
 pub record Forces (step : Scheduler) : Type 0 where
   pub only : (s : State) (c : Call) (e : ℕ) → Sized s → fateOf (step s c) e ≡ Forced → (fateOf s e ≡ Forced) ⊎ ForcedBy c s e
   pub others : (s : State) (e : ℕ) → Sized s → fateOf (step s (Submit e)) e ≡ Forced → fateOf s e ≡ Forced
+  pub reported : (s : State) (c : Call) (e : ℕ) → Sized s → fateOf s e ≡ Open → fateOf (step s c) e ≡ Done → c ≡ Submit e
+
+-- of every admitted sheet and every list: an event that is done after it was handed in by a call of the list (12.7)
+abbrev pub Reports : Scheduler → Type 0
+Reports step = (bytes : List ℕ) (s : State) (cs : List Call) (e : ℕ)
+    → readSheet bytes ≡ admitted s
+    → fateOf (after step s cs) e ≡ Done
+    → anyCall (submits e) cs ≡ true

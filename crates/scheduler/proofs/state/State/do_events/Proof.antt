@@ -1,13 +1,13 @@
 -- `State::do_events` meets its contract. The loop: what is left of the order and of its marks is still to settle.
-use Prim.Native.Nat.{ℕ, _+_, _≤_, _-_}
+use Prim.Native.Nat.{_+_, _≤_, _-_}
 use native.Mathlib.Omega.{arith}
 use borrow.Author.Needs.{needs}
 use borrow.Author.Tests.{lt-ltb, le-ltb}
-use mathlib.Core.Bool.{Bool, false}
+use mathlib.Core.Bool.{false}
 use mathlib.Core.Logic.{inl, inr}
 use mathlib.Core.Path.{_≡_, refl, sym, _∙_, ap}
 use lib.ListN.{length, getD, take, drop}
-use Rattle.scheduler.specs.Prelude.{Fate, State}
+use Rattle.scheduler.specs.Prelude.{State}
 use Rattle.plan.specs.Fates.{doneAs}
 use Rattle.scheduler.specs.State.{settleAs}
 use Rattle.scheduler.specs.Internal.Marked.{settleAll}
