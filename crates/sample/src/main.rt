@@ -44,23 +44,23 @@ fn all_held(state: State) -> State {
     next
 }
 
-// An order's event in a place, if the order is so long.
+// An order's event in a place, if the order is so long, and whether it was open.
 fn show_event(found: Found, place: u8) {
     let events = found.events;
+    let opened = found.opened;
     if place < found.len {
         if place < 6 {
             io::write_all(STDOUT_FILENO, b" ");
             io::print_decimal(STDOUT_FILENO, events[place as usize] as u64);
+            if opened[place as usize] {
+                io::write_all(STDOUT_FILENO, b" (open)");
+            }
         }
     }
 }
 
-// The chosen order for an event of a sheet whose events are all held.
-fn show_order(name: &[u8], sheet: &[u8], event: u8) {
-    io::write_all(STDOUT_FILENO, name);
-    let reading = sheet::read::read_sheet(sheet);
-    let state = all_held(reading.state);
-    let found = state.find_order(event);
+// What a search has found.
+fn show_found(found: Found) {
     if !found.ok {
         io::write_all(STDOUT_FILENO, b" none\n");
         return;
@@ -72,6 +72,22 @@ fn show_order(name: &[u8], sheet: &[u8], event: u8) {
     show_event(found, 4);
     show_event(found, 5);
     io::write_all(STDOUT_FILENO, b"\n");
+}
+
+// The chosen order for an event of a sheet whose events are all held.
+fn show_order(name: &[u8], sheet: &[u8], event: u8) {
+    io::write_all(STDOUT_FILENO, name);
+    let reading = sheet::read::read_sheet(sheet);
+    let state = all_held(reading.state);
+    show_found(state.find_order(event));
+}
+
+// The chosen order for an event of a sheet's first state, in which all are open.
+fn show_first_order(name: &[u8], sheet: &[u8], event: u8) {
+    io::write_all(STDOUT_FILENO, name);
+    let reading = sheet::read::read_sheet(sheet);
+    let state = reading.state;
+    show_found(state.find_order(event));
 }
 
 fn show_fate(fate: Fate) {
@@ -318,5 +334,10 @@ fn main() {
         b"K, 1:",
         b"\x01\x00\x06\x01\x00\x06\x01\x00\x06\x01\x00\x06\x01\x00\x06\x01\x00\x06\x01\x00\x06\x03\x00\x01\x03\x01\x02\x03\x02\x03\x03\x03\x04\x03\x04\x05\x03\x05\x06\x05",
         1,
+    );
+    show_first_order(
+        b"D, all open:",
+        b"\x01\x00\x01\x01\x01\x01\x03\x00\x01\x05",
+        0,
     );
 }

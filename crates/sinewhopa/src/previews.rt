@@ -3,8 +3,8 @@ use preview::kept::preview_on;
 ghost use mathlib.Core.Path.{_≡_};
 ghost use Rattle.preview.specs.Kept.{previewNumberOn, countsOn};
 
-// Writes how many lines handing the event in would add to the history as done, refused and lapsed, and a fourth count that
-// is 0, and answers 0; or answers the hand-in's own number, and leaves `added` as it was.
+// Writes how many lines handing the event in would add to the history as done, refused, lapsed and forced, and answers 0;
+// or answers the hand-in's own number, and leaves `added` as it was.
 #[no_mangle]
 pub extern "C" fn sinewhopa_preview(state: &[u8; 384], event: u8, added: &mut [u8; 4]) -> u8
     ensures number { λ r. ⌜ r ≡ previewNumberOn (now (state .entry)) event ⌝ }

@@ -19,7 +19,7 @@ use Rattle.theory.proofs.RuleInvariant.{unpaid, done-listed, need-named
 use Rattle.plan.proofs.Fates.{held-is, open-is}
 use Rattle.theory.proofs.Invariant.{Invariant}
 
-same-fates-refl : (xs : List Fate) → sameFates xs xs ≡ true
+pub same-fates-refl : (xs : List Fate) → sameFates xs xs ≡ true
 unfolding sameFates
 same-fates-refl [] = refl
 same-fates-refl (x ∷ xs) =

@@ -1,7 +1,6 @@
 -- S-5: the mark decides nothing. A call on a state and one on the same state without marks are turned down alike or taken
 -- alike, in lists too; number 12 asks only that the marks of fates and lines agree.
 use Prim.Native.Nat.{ℕ, zero, suc}
-use borrow.Author.Tests.{eq-eqb}
 use mathlib.Core.Bool.{Bool, true, false, not, _&&_, _||_}
 use mathlib.Core.List.{List, [], _∷_, _++_, map}
 use mathlib.Core.Option.{Option, none, some}
@@ -11,7 +10,7 @@ use lib.ListN.{take, replicate}
 use Rattle.theory.proofs.Types.{Fate, Open, Held, Done, Refused, Lapsed, Forced, Rule, Order, Need, Conditional, Plan, Entry, State, CallFault, Incoherent, TurnedDown, Reply, Call, Submit, Close, Finish}
 use Rattle.plan.specs.declared.answer.Answer.the-variants.{Is, Made}
 use Rattle.plan.specs.Base.{anyBelow, allBelow, readAt}
-use Rattle.plan.specs.Fates.{isOpen, isHeld, isDone, isSettled, fateNumber, sameFate, blankStanding}
+use Rattle.plan.specs.Fates.{isOpen, isHeld, isDone, isSettled, blankStanding}
 use Rattle.plan.specs.Plans.{emptyPlan, eventCount, ruleCount, ruleAt, stepOf, delayable, hasEvent}
 use Rattle.plan.specs.Rules.{soundEvent, soundRule}
 use Rattle.plan.specs.Histories.{blankEntry, fateIf, fatesIn, anyDone, doneIn, doneInTurn, holds, declaredOnly, sameFates, listedAs}
@@ -24,24 +23,17 @@ use Rattle.scheduler.specs.Lists.{scheduler, after}
 use Rattle.scheduler.specs.Sheet.{readSheet, admitted}
 use Rattle.scheduler.specs.Demand.{seen}
 use Rattle.theory.specs.Marks.{forgetFate, forgetLine, forget, forgetReply, Alike, forgetStory, unmarked, ListAlike}
-use Rattle.plan.proofs.Tests.{and-both, all-at, all-of}
+use Rattle.plan.proofs.Tests.{all-at, all-of}
 use Rattle.plan.proofs.Lines.{fates-same}
 use Rattle.scheduler.proofs.Branches.{take-fault, take-accept, call-fault, call-accept}
 use Rattle.theory.proofs.Conjunctions.{and-four, and-all-four}
 use Rattle.theory.proofs.SheetPlans.{sheet-first}
+use Rattle.theory.proofs.InvariantCoherent.{same-fates-refl}
 use Rattle.theory.proofs.Coherence.{sized-call, call-coherent, after-coherent}
 use Rattle.theory.proofs.Demands.{admitted-sized, admitted-coherent}
-use Rattle.theory.proofs.Marks.{Like, owes-kind, plan-like, closed-like, fate-like, kind-like, submit-like, close-like, finish-like, forget-fate}
+use Rattle.theory.proofs.Marks.{sees-none, Like, owes-kind, plan-like, closed-like, fate-like, kind-like, submit-like, close-like, finish-like, forget-fate}
 
 -- forgetting twice forgets no more
-fate-twice : (x : Fate) → forgetFate (forgetFate x) ≡ forgetFate x
-fate-twice Open = refl
-fate-twice Held = refl
-fate-twice Done = refl
-fate-twice Refused = refl
-fate-twice Lapsed = refl
-fate-twice Forced = refl
-
 map-twice : {A : Type 0} (f : A → A) → ((a : A) → f (f a) ≡ f a) → (l : List A) → map f (map f l) ≡ map f l
 map-twice f h [] = refl
 map-twice f h (a ∷ l) = ap₂ (λ b m. b ∷ m) (h a) (map-twice f h l)
@@ -50,8 +42,8 @@ pub forget-twice : (s : State) → forget (forget s) ≡ forget s
 unfolding forget
 forget-twice s =
     rw (
-      map-twice _ (λ v. ap (λ (x : Fate). record { fate = x }) (fate-twice (v .fate))) (s .standings),
-      map-twice forgetLine (λ (l : Entry). ap (λ (x : Fate). record { event = l .event; fate = x }) (fate-twice (l .fate))) (s .history),
+      map-twice _ (λ v. ap (λ (x : Fate). record { fate = x }) (sees-none forgetFate refl (v .fate))) (s .standings),
+      map-twice forgetLine (λ (l : Entry). ap (λ (x : Fate). record { event = l .event; fate = x }) (sees-none forgetFate refl (l .fate))) (s .history),
     )
 
 -- the table's rows
@@ -105,18 +97,10 @@ fates-forgotten (l ∷ h) e = go (eqb (l .event) e) (fates-forgotten h e)
     go true q = ap (λ m. forgetFate (l .fate) ∷ m) q
     go false q = q
 
-done-forgotten : (x : Fate) → isDone (forgetFate x) ≡ isDone x
-done-forgotten Open = refl
-done-forgotten Held = refl
-done-forgotten Done = refl
-done-forgotten Refused = refl
-done-forgotten Lapsed = refl
-done-forgotten Forced = refl
-
 any-forgotten : (xs : List Fate) → anyDone (map forgetFate xs) ≡ anyDone xs
 unfolding anyDone
 any-forgotten [] = refl
-any-forgotten (x ∷ xs) = ap₂ (λ a b. a || b) (done-forgotten x) (any-forgotten xs)
+any-forgotten (x ∷ xs) = ap₂ (λ a b. a || b) (sees-none isDone refl x) (any-forgotten xs)
 
 in-forgotten : (h : List Entry) (e : ℕ) → doneIn (map forgetLine h) e ≡ doneIn h e
 unfolding doneIn
@@ -127,7 +111,7 @@ unfolding doneInTurn
 turn-forgotten [] a b = refl
 turn-forgotten (l ∷ h) a b =
     ap₂ (λ x y. x || y)
-    (ap₂ (λ x y. eqb (l .event) a && x && y) (done-forgotten (l .fate)) (in-forgotten h b))
+    (ap₂ (λ x y. eqb (l .event) a && x && y) (sees-none isDone refl (l .fate)) (in-forgotten h b))
     (turn-forgotten h a b)
 
 holds-forgotten : (h : List Entry) (r : Rule) → holds (map forgetLine h) r ≡ holds h r
@@ -140,11 +124,6 @@ declared-forgotten : (h : List Entry) (n : ℕ) → declaredOnly (map forgetLine
 unfolding declaredOnly
 declared-forgotten [] n = refl
 declared-forgotten (l ∷ h) n = ap (λ b. ltb (l .event) n && b) (declared-forgotten h n)
-
-same-refl : (xs : List Fate) → sameFates xs xs ≡ true
-unfolding sameFates
-same-refl [] = refl
-same-refl (x ∷ xs) = and-both (sameFate x x) (sameFates xs xs) (eq-eqb (fateNumber x) (fateNumber x) refl) (same-refl xs)
 
 settled-forgotten : (x : Fate) → map forgetFate (fateIf (isSettled x) x) ≡ fateIf (isSettled (forgetFate x)) (forgetFate x)
 settled-forgotten Open = refl
@@ -159,7 +138,7 @@ unfolding listedAs
 listed-forgotten h e x t =
     let same = fates-same (fatesIn h e) (fateIf (isSettled x) x) t in
     let both : fatesIn (map forgetLine h) e ≡ fateIf (isSettled (forgetFate x)) (forgetFate x) = fates-forgotten h e ∙ ap (map forgetFate) same ∙ settled-forgotten x in
-    ap (λ l. sameFates l (fateIf (isSettled (forgetFate x)) (forgetFate x))) both ∙ same-refl _
+    ap (λ l. sameFates l (fateIf (isSettled (forgetFate x)) (forgetFate x))) both ∙ same-fates-refl _
 
 take-forgotten : (n : ℕ) (h : List Entry) → take n (map forgetLine h) ≡ map forgetLine (take n h)
 take-forgotten zero h = refl

@@ -42,17 +42,17 @@ pub record SameKind (x y : Fate) : Type 0 where
   pub is-gone : isGone x ≡ isGone y
 
 -- a test that sees no mark
-unmarked : (t : Fate → Bool) → t Forced ≡ t Done → (x : Fate) → t (forgetFate x) ≡ t x
-unmarked t h Open = refl
-unmarked t h Held = refl
-unmarked t h Done = refl
-unmarked t h Refused = refl
-unmarked t h Lapsed = refl
-unmarked t h Forced = sym h
+pub sees-none : {A : Type 0} (t : Fate → A) → t Forced ≡ t Done → (x : Fate) → t (forgetFate x) ≡ t x
+sees-none t h Open = refl
+sees-none t h Held = refl
+sees-none t h Done = refl
+sees-none t h Refused = refl
+sees-none t h Lapsed = refl
+sees-none t h Forced = sym h
 
 same-kind : (x y : Fate) → forgetFate x ≡ forgetFate y → SameKind x y
 same-kind x y h =
-    let through : (t : Fate → Bool) → t Forced ≡ t Done → t x ≡ t y = λ t q. sym (unmarked t q x) ∙ ap t h ∙ unmarked t q y in
+    let through : (t : Fate → Bool) → t Forced ≡ t Done → t x ≡ t y = λ t q. sym (sees-none t q x) ∙ ap t h ∙ sees-none t q y in
     record {
       is-open = through isOpen refl;
       is-held = through isHeld refl;
