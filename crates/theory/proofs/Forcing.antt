@@ -42,6 +42,23 @@ forces-open : (b : Bool) → doneAs b ≡ Forced → b ≡ true
 forces-open true h = refl
 forces-open false h = absurd (differs Done refl h)
 
+-- an event that may be done is held, or open and forcible
+at-hand : (s : State) (c : ℕ)
+    → mayDo s c ≡ true
+    → (isHeld (fateOf s c) ≡ true) ⊎ ((isOpen (fateOf s c) ≡ true) × (forcible (s .plan) c ≡ true))
+unfolding mayDo ready
+at-hand s c m =
+    let fresh = isOpen (fateOf s c) in
+    let may = forcible (s .plan) c in
+    elim (or-either (isHeld (fateOf s c)) (fresh && may) (and-left (isHeld (fateOf s c) || (fresh && may)) (not (forbidden s c)) m)) [
+      | inl h ↦ inl h
+      | inr h ↦ inr (and-left fresh may h, and-right fresh may h)
+    ]
+
+-- an event that would not come to be open was so
+was-open : (s : State) (e : ℕ) → (isOpen (fateOf s e) ≡ false → ⊥) → fateOf s e ≡ Open
+was-open s e n = elim (either (isOpen (fateOf s e))) [ inl t ↦ open-is (fateOf s e) t | inr f ↦ absurd (n f) ]
+
 -- a write that gives another fate than forced; and one after which an event that was not open is not
 module _ (x : Fate) (s : State) (d e : ℕ) (z : Sized s) where
   settle-forced : sameFate x Forced ≡ false → fateOf (settleAs x s d) e ≡ Forced → fateOf s e ≡ Forced
@@ -69,7 +86,7 @@ unfolding doAll
 all-unopened s [] e z h = h
 all-unopened s (c ∷ o) e z h = all-unopened (doOne s c) o e (sized-one s c z) (one-unopened s c e z h)
 
--- along a trail no event becomes open, and the plan stays
+-- along a trail no event becomes open
 trail-unopened : {c : Call} {s t : State} → Trail c s t → Sized s → (e : ℕ) → isOpen (fateOf s e) ≡ false → isOpen (fateOf t e) ≡ false
 trail-unopened end z e h = h
 trail-unopened (held {s} d p o r) z e h =
@@ -90,7 +107,7 @@ record InTurn (s : State) (o : List ℕ) (e : ℕ) : Type 0 where
   pub may : forcible (s .plan) e ≡ true
 
 order-forces : (s : State) (o : List ℕ) → Sized s → Runs s o → (e : ℕ) → fateOf (doAll s o) e ≡ Forced → (fateOf s e ≡ Forced) ⊎ InTurn s o e
-unfolding doAll mayDo ready
+unfolding doAll
 order-forces s [] z r e h = inl h
 order-forces s (c ∷ o) z r e h = elim (order-forces (doOne s c) o (sized-one s c z) (r .2) e h) [
   | inr i ↦ inr (record {
@@ -106,10 +123,9 @@ order-forces s (c ∷ o) z r e h = elim (order-forces (doOne s c) o (sized-one s
         let lt = ready-bound s c (r .1) in
         let at : fateAtTurn s c ≡ Forced = sym (fate-settle-same (fateAtTurn s c) s c z lt) ∙ ap (λ i. fateOf (doOne s c) i) (sym q) ∙ f in
         let is-open = forces-open (isOpen (fateOf s c)) at in
-        let hand = and-left (isHeld (fateOf s c) || (isOpen (fateOf s c) && forcible (s .plan) c)) (not (forbidden s c)) (r .1) in
-        let may : forcible (s .plan) c ≡ true = elim (or-either (isHeld (fateOf s c)) _ hand) [
+        let may : forcible (s .plan) c ≡ true = elim (at-hand s c (r .1)) [
           | inl w ↦ absurd (clash w (ap isHeld (open-is (fateOf s c) is-open)))
-          | inr w ↦ and-right (isOpen (fateOf s c)) (forcible (s .plan) c) w
+          | inr w ↦ w .1
         ] in
         inr (record {
           earlier = [];
@@ -129,10 +145,7 @@ earlier-write : {c : Call} {s t : State} (e : ℕ)
     → ForcedBy c t e
     → ForcedBy c s e
 earlier-write {s = s} e plan before unopened f = record {
-  fresh = elim (either (isOpen (fateOf s e))) [
-    | inl t ↦ open-is (fateOf s e) t
-    | inr n ↦ absurd (clash (ap isOpen (f .fresh)) (unopened n))
-  ];
+  fresh = was-open s e (λ n. clash (ap isOpen (f .fresh)) (unopened n));
   may = ap (λ (p : Plan). forcible p e) (sym plan) ∙ f .may;
   at = f .at;
   reached = before (f .at) (f .reached);
@@ -156,10 +169,7 @@ trail-forces (ordered {s} d o w f r) z e h = elim (trail-forces r (sized-doAll s
   | inl g ↦ elim (order-forces s o z (f .viable .runs) e g) [
     | inl q ↦ inl q
     | inr i ↦ inr (record {
-      fresh = elim (either (isOpen (fateOf s e))) [
-        | inl t ↦ open-is (fateOf s e) t
-        | inr n ↦ absurd (clash (ap isOpen (i .opened)) (all-unopened s (i .earlier) e z n))
-      ];
+      fresh = was-open s e (λ n. clash (ap isOpen (i .opened)) (all-unopened s (i .earlier) e z n));
       may = i .may;
       at = s;
       reached = end;
@@ -214,19 +224,17 @@ settle-heard x s d e z n h = elim (fate-settle-either x s d e z) [ inl q ↦ abs
 
 -- an order does only what is held
 order-heard : (s : State) (o : List ℕ) → Sized s → Runs s o → (e : ℕ) → heard (fateOf (doAll s o) e) ≡ true → heard (fateOf s e) ≡ true
-unfolding doAll mayDo ready
+unfolding doAll
 order-heard s [] z r e h = h
 order-heard s (c ∷ o) z r e h =
     let later = order-heard (doOne s c) o (sized-one s c z) (r .2) e h in
     elim (ℕ-discrete e c) [
       | no ne ↦ sym (ap heard (fate-settle-other (fateAtTurn s c) s c e ne)) ∙ later
       | yes q ↦
-          let hand = and-left (isHeld (fateOf s c) || (isOpen (fateOf s c) && forcible (s .plan) c)) (not (forbidden s c)) (r .1) in
-          elim (or-either (isHeld (fateOf s c)) _ hand) [
+          elim (at-hand s c (r .1)) [
             | inl w ↦ ap (λ i. heard (fateOf s i)) q ∙ ap (λ (b : Bool). b || sameFate (fateOf s c) Done) w
             | inr w ↦
-                let opened = and-left (isOpen (fateOf s c)) (forcible (s .plan) c) w in
-                let forced : fateOf (doOne s c) c ≡ Forced = fate-settle-same (fateAtTurn s c) s c z (ready-bound s c (r .1)) ∙ ap doneAs opened in
+                let forced : fateOf (doOne s c) c ≡ Forced = fate-settle-same (fateAtTurn s c) s c z (ready-bound s c (r .1)) ∙ ap doneAs (w .0) in
                 absurd (clash (sym (ap (λ i. heard (fateOf (doOne s c) i)) q) ∙ later) (ap heard forced))
           ]
     ]
