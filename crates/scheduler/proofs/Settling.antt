@@ -15,7 +15,8 @@ use Rattle.scheduler.specs.State.{fateOf, settleAs, Sized}
 use Rattle.plan.specs.Fates.{isHeld, isSettled}
 use Rattle.scheduler.specs.Rules.{barred}
 use Rattle.scheduler.specs.Orders.{mayDo, fateAtTurn, doOne, Runs, Viable, First, chosen, doAll}
-use Rattle.scheduler.specs.Calls.{Lowest, IsHeld, HeldBarred, HeldViable, Turn, refuses, does, AtRest, Turns, stay, turn, Settles, toRefuse, toDo, settleOnce, settleUpTo, settle, refuseHeld, finish, Refusing, nothing-held, refuse-next, Finishes}
+use Rattle.scheduler.specs.Calls.{Lowest, IsHeld, HeldBarred, HeldViable, Turn, refuses, does, AtRest, Turns, stay, turn, Settles, Refusing, nothing-held, refuse-next, Finishes}
+use Rattle.scheduler.specs.Calls.{toRefuse, toDo, settleOnce, settleUpTo, settle, refuseHeld, finish}
 use Rattle.plan.proofs.Tests.{either, and-left, and-right, and-both, clash, first-none, first-some, when-none, when-some, some-none, count-le, count-more}
 use Rattle.plan.proofs.Fates.{held-is}
 use Rattle.scheduler.proofs.Laws.{turn-settled, sized-one, fate-past, plan-settle, fate-settle-same, fate-settle-other, sized-settle}
@@ -302,8 +303,10 @@ refusing-up (suc n) s z few = go (lowestHeld s) refl (refusing-up n)
     go none h rec = subst (Refusing s) (sym (refuse-none n s h)) (nothing-held (lowest-none s (held-tested s) h))
     go (some e) h rec =
         let l = lowest-some s (held-tested s) e h in
+        let t = settleAs Refused s e in
         let z′ = sized-settle Refused s e z in
-        subst (Refusing s) (sym (refuse-some n s e h)) (refuse-next e l (settle-settles (settleAs Refused s e) z′) (rec (settle (settleAs Refused s e)) (sized-settling (settleAs Refused s e) z′) (omega (arith, next-falls s e z (l .is)))))
+        subst (Refusing s) (sym (refuse-some n s e h))
+        (refuse-next e l (settle-settles t z′) (rec (settle t) (sized-settling t z′) (omega (arith, next-falls s e z (l .is)))))
 
 up-refusing : {s t : State} → Refusing s t → Sized s → (n : ℕ) → unsettled s ≤ n → t ≡ refuseHeld n s
 unfolding refuseHeld

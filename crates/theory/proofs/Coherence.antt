@@ -133,7 +133,7 @@ module _ (s : State) (h : coherent s ≡ true) where
   abbrev openUnclosed : ℕ → Bool
   openUnclosed e = not (isOpen (fateOf s e) && closedAt s (stepOf p e))
 
-  event-passes : (e : ℕ)
+  pub event-passes : (e : ℕ)
       → e < eventCount p
       → (soundEvent p e ≡ true) × (listed e ≡ true) × (heldWaits e ≡ true) × (openUnclosed e ≡ true)
   unfolding coherentEvent

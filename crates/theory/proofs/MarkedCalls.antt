@@ -1,6 +1,7 @@
 -- S-5: the mark decides nothing. A call on a state and one on the same state without marks are turned down alike or taken
 -- alike, in lists too; number 12 asks only that the marks of fates and lines agree.
-use Prim.Native.Nat.{ℕ, zero, suc}
+use Prim.Native.Nat.{ℕ, zero, suc, _<_}
+use native.Mathlib.Omega.{arith}
 use mathlib.Core.Bool.{Bool, true, false, not, _&&_, _||_}
 use mathlib.Core.List.{List, [], _∷_, _++_, map}
 use mathlib.Core.Option.{Option, none, some}
@@ -22,14 +23,12 @@ use Rattle.scheduler.specs.Answers.{unclosedAt, callRows, callFault, accept, ta
 use Rattle.scheduler.specs.Lists.{scheduler, after}
 use Rattle.scheduler.specs.Sheet.{readSheet, admitted}
 use Rattle.scheduler.specs.Demand.{seen}
-use Rattle.theory.specs.Marks.{forgetFate, forgetLine, forget, forgetReply, Alike, forgetStory, unmarked, ListAlike}
-use Rattle.plan.proofs.Tests.{all-at, all-of}
+use Rattle.theory.specs.Marks.{forgetFate, forgetLine, forget, forgetReply, MarksRight, Alike, forgetStory, unmarked, ListAlike}
 use Rattle.plan.proofs.Lines.{fates-same}
 use Rattle.scheduler.proofs.Branches.{take-fault, take-accept, call-fault, call-accept}
-use Rattle.theory.proofs.Conjunctions.{and-four, and-all-four}
 use Rattle.theory.proofs.SheetPlans.{sheet-first}
 use Rattle.theory.proofs.InvariantCoherent.{same-fates-refl}
-use Rattle.theory.proofs.Coherence.{sized-call, call-coherent, after-coherent}
+use Rattle.theory.proofs.Coherence.{event-passes, sized-call, call-coherent, after-coherent}
 use Rattle.theory.proofs.Demands.{admitted-sized, admitted-coherent}
 use Rattle.theory.proofs.Marks.{sees-none, Like, owes-kind, plan-like, closed-like, fate-like, kind-like, submit-like, close-like, finish-like, forget-fate}
 
@@ -145,7 +144,13 @@ take-forgotten zero h = refl
 take-forgotten (suc n) [] = refl
 take-forgotten (suc n) (l ∷ h) = ap (λ m. forgetLine l ∷ m) (take-forgotten n h)
 
--- number 12 does not apply once the marks are forgotten, where it did not before
+-- tests that agree below a bound
+all-same : (n : ℕ) (p q : ℕ → Bool) → ((i : ℕ) → i < n → p i ≡ q i) → allBelow n p ≡ allBelow n q
+unfolding allBelow
+all-same zero p q h = refl
+all-same (suc n) p q h = ap₂ (λ a b. a && b) (h n (omega arith)) (all-same n p q (λ i lt. h i (omega arith)))
+
+-- number 12 says the same without marks, where they are right
 module _ (s : State) where
   k : Like s (forget s)
   k = sym (forget-twice s)
@@ -154,48 +159,55 @@ module _ (s : State) where
   unfolding forget
   lines-forgotten = take-forgotten (lineCount s) (s .history)
 
-  event-forgotten : (e : ℕ) → coherentEvent s e ≡ true → coherentEvent (forget s) e ≡ true
-  unfolding coherentEvent
-  event-forgotten e h =
-      let waits : Bool = not (isHeld (fateOf s e) && not (delayable (s .plan) e)) in
-      let unclosed : Bool = not (isOpen (fateOf s e) && closedAt s (stepOf (s .plan) e)) in
-      let listed : Bool = listedAs (lines s) e (fateOf s e) in
-      let parts = and-four (soundEvent (s .plan) e) listed waits unclosed h in
+  event-same : (e : ℕ)
+      → listedAs (lines s) e (fateOf s e) ≡ listedAs (lines (forget s)) e (fateOf (forget s) e)
+      → coherentEvent s e ≡ coherentEvent (forget s) e
+  unfolding coherentEvent forget
+  event-same e same =
+      let p = s .plan in
       let kind = kind-like s (forget s) k e in
-      and-all-four (soundEvent (forget s .plan) e) _ _ _
-      (ap (λ (p : Plan). soundEvent p e) (sym (plan-like s (forget s) k)) ∙ parts .0)
-      (ap₂ (λ l x. listedAs l e x) lines-forgotten (forget-fate s e) ∙ listed-forgotten (lines s) e (fateOf s e) (parts .1))
-      (ap₂ (λ a b. not (a && not b)) (sym (kind .is-held)) (ap (λ (p : Plan). delayable p e) (sym (plan-like s (forget s) k))) ∙ parts .2)
-      (ap₂ (λ a b. not (a && b)) (sym (kind .is-open)) (ap₂ (λ (l : List Bool) (p : Plan). readAt 8 l (stepOf p e) false) (sym (closed-like s (forget s) k)) (sym (plan-like s (forget s) k))) ∙ parts .3)
+      let waits = not (isHeld (fateOf s e) && not (delayable p e)) in
+      let unclosed = not (isOpen (fateOf s e) && closedAt s (stepOf p e)) in
+      let listed = listedAs (lines (forget s)) e (fateOf (forget s) e) in
+      ap (λ b. soundEvent p e && b && waits && unclosed) same
+      ∙ ap₂ (λ h o. soundEvent p e && listed && not (h && not (delayable p e)) && not (o && closedAt s (stepOf p e)))
+      (kind .is-held) (kind .is-open)
 
-  rule-forgotten : (i : ℕ) → coherentRule (forget s) i ≡ coherentRule s i
+  rule-same : (i : ℕ) → coherentRule s i ≡ coherentRule (forget s) i
   unfolding coherentRule forget
-  rule-forgotten i =
+  rule-same i =
       let r = ruleAt (s .plan) i in
       ap₂ (λ a b. soundRule (s .plan) i && (brokenAt s i || (not a && b)))
-      (sym (owes-kind (s .plan) (fateOf s) (fateOf (forget s)) (kind-like s (forget s) k) r))
-      (ap (λ l. holds l r) lines-forgotten ∙ holds-forgotten (lines s) r)
+      (owes-kind (s .plan) (fateOf s) (fateOf (forget s)) (kind-like s (forget s) k) r)
+      (sym (ap (λ l. holds l r) lines-forgotten ∙ holds-forgotten (lines s) r))
 
-  pub coherent-forgotten : coherent s ≡ true → coherent (forget s) ≡ true
+  pub coherent-same : MarksRight s → coherent s ≡ coherent (forget s)
   unfolding coherent forget
-  coherent-forgotten h =
+  coherent-same right =
       let p = s .plan in
-      let declared : Bool = declaredOnly (lines s) (eventCount p) in
-      let counts : Bool = leb (eventCount p) 16 && leb (ruleCount p) 16 && leb (lineCount s) 16 in
-      let parts = and-four counts declared (allBelow (eventCount p) (coherentEvent s)) (allBelow (ruleCount p) (coherentRule s)) h in
-      and-all-four counts _ _ _
-      (parts .0)
-      (ap (λ l. declaredOnly l (eventCount p)) lines-forgotten ∙ declared-forgotten (lines s) (eventCount p) ∙ parts .1)
-      (all-of (eventCount p) (coherentEvent (forget s)) (λ e lt. event-forgotten e (all-at (eventCount p) (coherentEvent s) (parts .2) e lt)))
-      (all-of (ruleCount p) (coherentRule (forget s)) (λ i lt. rule-forgotten i ∙ all-at (ruleCount p) (coherentRule s) (parts .3) i lt))
+      let counts = leb (eventCount p) 16 && leb (ruleCount p) 16 && leb (lineCount s) 16 in
+      let declared = sym (ap (λ l. declaredOnly l (eventCount p)) lines-forgotten ∙ declared-forgotten (lines s) (eventCount p)) in
+      ap (λ b. counts && b && allBelow (eventCount p) (coherentEvent s) && allBelow (ruleCount p) (coherentRule s)) declared
+      ∙ ap₂ (λ a b. counts && declaredOnly (lines (forget s)) (eventCount p) && a && b)
+      (all-same (eventCount p) (coherentEvent s) (coherentEvent (forget s)) (λ e lt. event-same e (right e lt)))
+      (all-same (ruleCount p) (coherentRule s) (coherentRule (forget s)) (λ i lt. rule-same i))
 
-  -- every call, on every state of which number 12 says the same without its marks
+  -- such as in every state that hangs together
+  pub coherent-right : coherent s ≡ true → MarksRight s
+  coherent-right h e lt =
+      let listed = event-passes s h e lt .1 in
+      listed ∙ sym (ap₂ (λ l x. listedAs l e x) lines-forgotten (forget-fate s e) ∙ listed-forgotten (lines s) e (fateOf s e) listed)
+
+  -- every call, on every state of which number 12 says the same without its marks: where they are right, and where it applies
+  -- for another reason
   pub alike : coherent s ≡ coherent (forget s) → (c : Call) → Alike s c
   alike same c = record { refusals = fault-like s (forget s) k same c; replies = call-like s (forget s) k same c }
 
-  -- such as every state that hangs together
+  pub right-alike : MarksRight s → (c : Call) → Alike s c
+  right-alike right c = alike (coherent-same right) c
+
   pub coherent-alike : coherent s ≡ true → (c : Call) → Alike s c
-  coherent-alike h c = alike (h ∙ sym (coherent-forgotten h)) c
+  coherent-alike h c = right-alike (coherent-right h) c
 
   -- number 12 aside, every state
   pub taken-alike : (c : Call) → forgetReply (takeCall s c) ≡ forgetReply (takeCall (forget s) c)
@@ -245,6 +257,6 @@ misread = record {
   «history_len» = 1;
 }
 
-pub marks-agree : (coherent misread ≡ false) × (coherent (forget misread) ≡ true)
+pub marks-wrong : (coherent misread ≡ false) × (coherent (forget misread) ≡ true)
 unfolding coherent forget coherentEvent coherentRule allBelow declaredOnly soundEvent listedAs fatesIn sameFates addEvent
-marks-agree = (refl, refl)
+marks-wrong = (refl, refl)

@@ -1,5 +1,5 @@
 -- The mark forced: what a state is without it, and what may be marked.
-use Prim.Native.Nat.{ℕ}
+use Prim.Native.Nat.{ℕ, _<_}
 use mathlib.Core.Bool.{true}
 use mathlib.Core.List.{List, [], _∷_, _++_, map}
 use mathlib.Core.Logic.{_⊎_}
@@ -14,8 +14,9 @@ use Rattle.plan.specs.declared.answer.Answer.{Answer}
 use Rattle.plan.specs.declared.answer.Answer.the-variants.{Is, Made, TurnedDown}
 use Rattle.scheduler.specs.declared.state.State.{State}
 use Rattle.scheduler.specs.declared.reply.Reply.{Reply}
-use Rattle.plan.specs.Plans.{forcible}
-use Rattle.scheduler.specs.State.{fateOf, lineCount, Sized}
+use Rattle.plan.specs.Plans.{eventCount, forcible}
+use Rattle.plan.specs.Histories.{listedAs}
+use Rattle.scheduler.specs.State.{fateOf, lineCount, lines, Sized}
 use Rattle.scheduler.specs.Orders.{First, doAll}
 use Rattle.scheduler.specs.Answers.{callFault, call}
 use Rattle.scheduler.specs.Sheet.{readSheet, admitted}
@@ -46,6 +47,13 @@ forget s = record {
 
 abbrev pub forgetReply : Reply → Reply
 forgetReply r = record { answer = forgetAnswer (r .answer); state = forget (r .state) }
+
+-- the marks of a state are right: whether the history lists a declared event with its fate, and no other, is the same without
+-- them. They are wrong where a line says done of a forced event, or the other way round (11.18)
+abbrev pub MarksRight : State → Type 0
+MarksRight s = (e : ℕ)
+    → e < eventCount (s .plan)
+    → listedAs (lines s) e (fateOf s e) ≡ listedAs (lines (forget s)) e (fateOf (forget s) e)
 
 -- a call on a state and on the same state without marks: turned down by the same number or taken, and what they give
 -- differs in marks alone (11.18)
