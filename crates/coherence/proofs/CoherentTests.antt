@@ -2,7 +2,7 @@
 use Prim.Native.Nat.{ℕ, _≤_, _<_}
 use native.Mathlib.Omega.{arith}
 use borrow.Author.Tests.{lt-ltb, ltb-false, not-true, not-false, leb-true}
-use mathlib.Core.Bool.{Bool, true, false, not, _&&_, _||_, and-false}
+use mathlib.Core.Bool.{Bool, true, false, not, _&&_, _||_, and-true, and-false, or-false}
 use mathlib.Core.List.{List}
 use mathlib.Core.Logic.{inl, inr}
 use mathlib.Core.Path.{_≡_, refl, sym, _∙_, ap}
@@ -11,11 +11,11 @@ use lib.ListN.{getD}
 use Rattle.coherence.specs.Prelude.{Fate, Event, Rule, Order, Need, Conditional, RuleLine, Plan, Standing, Entry}
 use Rattle.plan.specs.Base.{readAt, allBelow}
 use Rattle.plan.specs.Fates.{Fates, isOpen, isHeld, isDone, isGone, isSettled, blankStanding, fatesOf}
-use Rattle.plan.specs.Plans.{blankEvent, blankRule, holdsBit, eventCount, ruleCount, eventAt, stepOf, ruleAt, delayable}
-use Rattle.plan.specs.Rules.{badStep, badAttributes, named, enforceable, soundEvent, soundRule, owes}
-use Rattle.plan.specs.Histories.{doneIn, holds, declaredOnly, listedAs}
+use Rattle.plan.specs.Plans.{blankEvent, blankRule, holdsBit, eventCount, ruleCount, eventAt, stepOf, ruleAt, forcible, delayable}
+use Rattle.plan.specs.Rules.{badStep, badAttributes, named, enforceable, soundEvent, soundRule, unstoppable, reckoned, triggered, owes}
+use Rattle.plan.specs.Histories.{doneIn, doneInTurn, holds, declaredOnly, listedAs}
 use Rattle.coherence.specs.Listings.{Placed, placeIn, Marked}
-use Rattle.coherence.specs.Cohering.{eventCoheres, eventsCohere, ruleCoheres, rulesCohere, coheres}
+use Rattle.coherence.specs.Cohering.{eventCoheres, eventsCohere, ruleCoheres, rulesCohere, coheres, awaits}
 use Rattle.plan.proofs.Tests.{clash, either, and-left, and-right, and-both, and-not, all-at, all-of}
 use Rattle.plan.proofs.Arrays.{read-in}
 use Rattle.plan.proofs.Loops.{all-fail}
@@ -122,12 +122,31 @@ module _ (p : Plan) (standings : List Standing) (closed listed : List Bool) (h :
       all-of (eventCount p) (eventCoheres p (fatesOf standings) closed h)
       (λ e lt. sym (event-test e (omega arith)) ∙ each e lt)
 
--- a rule that holds of a history that lists what is done owes nothing: d its triggers are done, x what it calls for is
+-- a need that holds of a history that lists what is done owes nothing: d its trigger is done, x what it calls for is
 -- done, y that is gone
-paid : (d x y : Bool) → (not (d && not (x || y)) && not (d && not x)) ≡ not (d && not x)
+paid : (d x y : Bool) → (not (d && not (x || y)) && not (d && not x)) ≡ (not (d && not x) && true)
 paid true true y = refl
 paid true false y = and-false (not (not y))
 paid false x y = refl
+
+-- a conditional owes and holds only where a trigger cannot be stopped: d and e its triggers are done, u and v nothing
+-- can stop them, n what it calls for cannot be forced, x and y that is done, or gone
+one-done : (u n s : Bool) → (not (((u && n) || false) && not s) && true) ≡ not (((u || false) && n) && not s)
+one-done true true s = and-true (not (not s))
+one-done true false s = refl
+one-done false n s = refl
+
+awaited : (d e u v n x y : Bool)
+    → (not (((d && (e || (v && n))) || (e && (d || (u && n)))) && not (x || y)) && not (d && e && not x))
+    ≡ (not (d && e && not x) && not (((d && v) || (e && u)) && n && not (x || y)))
+awaited true true u v n true y = sym (ap not (and-false ((v || u) && n)))
+awaited true true u v n false y = and-false (not (not y))
+awaited true false u v n x y = one-done v n (x || y)
+awaited false true u v n x y = other u n (x || y)
+  where
+    other : (u n s : Bool) → (not ((u && n) && not s) && true) ≡ not ((u && n) && not s)
+    other u n s = and-true (not ((u && n) && not s))
+awaited false false u v n x y = refl
 
 module _ (p : Plan) (f : Fates) (closed : List Bool) (h : List Entry) where
   event-listed : (e : ℕ) → eventCoheres p f closed h e ≡ true → listedAs h e (f e) ≡ true
@@ -142,20 +161,22 @@ module _ (p : Plan) (f : Fates) (closed : List Bool) (h : List Entry) where
     listed-as e lt =
         listed-done h e (f e) (event-listed e (all-at (eventCount p) (eventCoheres p f closed h) pass e lt))
 
-    holds-paid : (r : Rule) → named (eventCount p) r ≡ true → (not (owes p f r) && holds h r) ≡ holds h r
-    unfolding named owes holds
-    holds-paid (Order a b) n = refl
+    holds-paid : (r : Rule)
+        → named (eventCount p) r ≡ true
+        → (not (owes p f r) && holds h r) ≡ (holds h r && not (awaits p f r))
+    unfolding named owes triggered reckoned holds awaits
+    holds-paid (Order a b) n = sym (and-true (not (doneInTurn h b a)))
     holds-paid (Need a b) n =
         let q = two-named _ a b _ n in
         rw (listed-as a (q .0), listed-as b (q .1)) (paid (isDone (f a)) (isDone (f b)) (isGone (f b)))
     holds-paid (Conditional a b c) n =
         let q = triple-named _ a b c n in
         rw (listed-as a (q .first), listed-as b (q .second), listed-as c (q .third))
-        (paid (isDone (f a) && isDone (f b)) (isDone (f c)) (isGone (f c)))
+        (awaited (isDone (f a)) (isDone (f b)) (unstoppable p f a) (unstoppable p f b) (not (forcible p c)) (isDone (f c)) (isGone (f c)))
 
-    -- so number 12 asks of a rule that it is sound, and recorded as broken or holds
+    -- so number 12 asks of a rule that it is sound, and recorded as broken, or holds and awaits nothing
     rule-test : (broken : List Bool) (i : ℕ)
-        → ruleCoheres p f broken h i ≡ (soundRule p i && (readAt 16 broken i false || holds h (ruleAt p i)))
+        → ruleCoheres p f broken h i ≡ (soundRule p i && (readAt 16 broken i false || (holds h (ruleAt p i) && not (awaits p f (ruleAt p i)))))
     unfolding ruleCoheres soundRule
     rule-test broken i = elim (either (named (eventCount p) (ruleAt p i))) [
       | inl n ↦ rw (holds-paid (ruleAt p i) n)
@@ -169,25 +190,25 @@ ruleIn rules i = getD rules i blankRule .rule
 abbrev pub admitsAt : Plan → ℕ → List RuleLine → ℕ → Bool
 admitsAt p n rules i = named n (ruleIn rules i) && enforceable p (ruleIn rules i)
 
-abbrev pub keptAt : List Entry → List Bool → List RuleLine → ℕ → Bool
-keptAt h broken rules i = getD broken i false || holds h (ruleIn rules i)
+abbrev pub keptAt : Plan → Fates → List Entry → List Bool → List RuleLine → ℕ → Bool
+keptAt p f h broken rules i = getD broken i false || (holds h (ruleIn rules i) && not (awaits p f (ruleIn rules i)))
 
-pub kept-both : (p : Plan) (n : ℕ) (h : List Entry) (broken : List Bool) (rules : List RuleLine) (i : ℕ)
+pub kept-both : (p : Plan) (f : Fates) (n : ℕ) (h : List Entry) (broken : List Bool) (rules : List RuleLine) (i : ℕ)
     → admitsAt p n rules i ≡ true
-    → keptAt h broken rules i ≡ true
-    → (admitsAt p n rules i && keptAt h broken rules i) ≡ true
-kept-both p n h broken rules i = and-both (admitsAt p n rules i) (keptAt h broken rules i)
+    → keptAt p f h broken rules i ≡ true
+    → (admitsAt p n rules i && keptAt p f h broken rules i) ≡ true
+kept-both p f n h broken rules i = and-both (admitsAt p n rules i) (keptAt p f h broken rules i)
 
 module _ (p : Plan) (f : Fates) (broken closed : List Bool) (h : List Entry) (few : ruleCount p ≤ 16)
     (pass : eventsCohere p f closed h ≡ true) where
   read-rule : (i : ℕ)
       → i < ruleCount p
-      → (admitsAt p (eventCount p) (p .rules) i && keptAt h broken (p .rules) i) ≡ ruleCoheres p f broken h i
+      → (admitsAt p (eventCount p) (p .rules) i && keptAt p f h broken (p .rules) i) ≡ ruleCoheres p f broken h i
   unfolding soundRule
   read-rule i lt =
-      ap (λ (v : RuleLine). (named (eventCount p) (v .rule) && enforceable p (v .rule)) && (getD broken i false || holds h (v .rule)))
+      ap (λ (v : RuleLine). (named (eventCount p) (v .rule) && enforceable p (v .rule)) && (getD broken i false || (holds h (v .rule) && not (awaits p f (v .rule)))))
       (sym (read-in 16 (p .rules) i blankRule (omega arith)))
-      ∙ ap (λ b. soundRule p i && (b || holds h (ruleAt p i))) (sym (read-in 16 broken i false (omega arith)))
+      ∙ ap (λ b. soundRule p i && (b || (holds h (ruleAt p i) && not (awaits p f (ruleAt p i))))) (sym (read-in 16 broken i false (omega arith)))
       ∙ sym (rule-test p f closed h pass broken i)
 
   module _ (i : ℕ) (lt : i < ruleCount p) where
@@ -196,14 +217,14 @@ module _ (p : Plan) (f : Fates) (broken closed : List Bool) (h : List Entry) (fe
     rule-unsound bad =
         all-fail (ruleCount p) (ruleCoheres p f broken h) i lt (sym (read-rule i lt) ∙ and-fails-left _ _ bad)
 
-    pub rule-breaks : keptAt h broken (p .rules) i ≡ false → rulesCohere p f broken h ≡ false
+    pub rule-breaks : keptAt p f h broken (p .rules) i ≡ false → rulesCohere p f broken h ≡ false
     rule-breaks bad =
         all-fail (ruleCount p) (ruleCoheres p f broken h) i lt
         (sym (read-rule i lt) ∙ and-fails-right (admitsAt p (eventCount p) (p .rules) i) _ bad)
 
   pub rules-pass : ((i : ℕ)
       → i < ruleCount p
-      → (admitsAt p (eventCount p) (p .rules) i && keptAt h broken (p .rules) i) ≡ true)
+      → (admitsAt p (eventCount p) (p .rules) i && keptAt p f h broken (p .rules) i) ≡ true)
       → rulesCohere p f broken h ≡ true
   rules-pass each = all-of (ruleCount p) (ruleCoheres p f broken h) (λ i lt. sym (read-rule i lt) ∙ each i lt)
 
@@ -248,6 +269,47 @@ module _ (rule : Rule) (a b : ℕ) (names : (n : ℕ) × (n ≤ 16) × (named n 
     conditional-holds c is =
         let q = conditional-inside c is in
         rw (is, p .done a, p .done b, p .done c, lt-ltb a 16 (q .0), lt-ltb b 16 (q .1), lt-ltb c 16 (q .2))
+
+-- what a conditional awaits, as the code reads it
+abbrev unstoppableAs : Event → Fate → Bool
+unstoppableAs v x = isOpen x && not (holdsBit 2 (v .attributes)) && not (holdsBit 4 (v .attributes))
+
+module _ (events : List Event) (standings : List Standing) (rule : Rule) where
+  abbrev fateIn : ℕ → Fate
+  fateIn e = getD standings e blankStanding .fate
+
+  abbrev eventIn : ℕ → Event
+  eventIn e = getD events e blankEvent
+
+  pub conditional-awaits : (a b c : ℕ)
+      → ((n : ℕ) × (n ≤ 16) × (named n rule ≡ true))
+      → rule ≡ Conditional a b c
+      → (x u y v w z : Bool)
+      → x ≡ isDone (fateIn a)
+      → u ≡ unstoppableAs (eventIn b) (fateIn b)
+      → y ≡ isDone (fateIn b)
+      → v ≡ unstoppableAs (eventIn a) (fateIn a)
+      → w ≡ holdsBit 1 (eventIn c .attributes)
+      → z ≡ isSettled (fateIn c)
+      → (p : Plan)
+      → p .events ≡ events
+      → ((((x && u) || (y && v)) && not w) && not z) ≡ awaits p (fatesOf standings) rule
+  unfolding awaits unstoppable
+  conditional-awaits a b c names is x u y v w z hx hu hy hv hw hz p same =
+      let q = conditional-inside rule a b names c is in
+      let fate : (e : ℕ) → e < 16 → fateIn e ≡ fatesOf standings e =
+      λ e lt. ap (λ (s : Standing). s .fate) (sym (read-in 16 standings e blankStanding lt)) in
+      let event : (e : ℕ) → e < 16 → eventIn e ≡ eventAt p e =
+      λ e lt. ap (λ (l : List Event). getD l e blankEvent) (sym same) ∙ sym (read-in 16 (p .events) e blankEvent lt) in
+      rw (is, hx, hu, hy, hv, hw, hz, fate a (q .0), fate b (q .1), fate c (q .2), event a (q .0), event b (q .1), event c (q .2))
+
+  pub order-awaits : (a b : ℕ) → rule ≡ Order a b → (p : Plan) → p .events ≡ events → false ≡ awaits p (fatesOf standings) rule
+  unfolding awaits
+  order-awaits a b is p same = rw is
+
+  pub need-awaits : (a b : ℕ) → rule ≡ Need a b → (p : Plan) → p .events ≡ events → false ≡ awaits p (fatesOf standings) rule
+  unfolding awaits
+  need-awaits a b is p same = rw is
 
 -- the tests of number 12 in turn: the first that fails decides
 module _ (p : Plan) (len : ℕ) where

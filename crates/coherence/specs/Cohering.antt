@@ -1,10 +1,10 @@
 -- Number 12 of the parts of a state: a plan, the fates of its events, which rules are recorded as broken and which steps
 -- are closed, and a history with its length.
-use Rattle.coherence.specs.Prelude.{ℕ, Bool, false, not, _&&_, _||_, List, leb, Plan, Entry}
+use Rattle.coherence.specs.Prelude.{ℕ, Bool, false, not, _&&_, _||_, List, leb, Rule, Order, Need, Conditional, Plan, Entry}
 use Rattle.plan.specs.Base.{allBelow, readAt}
-use Rattle.plan.specs.Fates.{Fates, isOpen, isHeld}
-use Rattle.plan.specs.Plans.{eventCount, ruleCount, stepOf, ruleAt, delayable}
-use Rattle.plan.specs.Rules.{soundEvent, soundRule, owes}
+use Rattle.plan.specs.Fates.{Fates, isOpen, isHeld, isDone, isSettled}
+use Rattle.plan.specs.Plans.{eventCount, ruleCount, stepOf, ruleAt, forcible, delayable}
+use Rattle.plan.specs.Rules.{soundEvent, soundRule, unstoppable, owes}
 use Rattle.plan.specs.Histories.{holds, declaredOnly, listedAs}
 
 -- a sheet could declare the event, the history lists it as its fate asks for, it may wait if it is held, and its step is
@@ -28,6 +28,16 @@ ruleCoheres p f broken h i =
 
 abbrev pub rulesCohere : Plan → Fates → List Bool → List Entry → Bool
 rulesCohere p f broken h = allBelow (ruleCount p) (ruleCoheres p f broken h)
+
+-- a conditional owes because of a trigger that nothing can stop: the other one is done, and c is neither forcible nor
+-- settled (6.10)
+unfoldable pub awaits : Plan → Fates → Rule → Bool
+awaits p f (Order a b) = false
+awaits p f (Need a b) = false
+awaits p f (Conditional a b c) =
+    ((isDone (f a) && unstoppable p f b) || (isDone (f b) && unstoppable p f a))
+    && not (forcible p c)
+    && not (isSettled (f c))
 
 -- number 12 does not apply to these parts (10.4, 10.5)
 unfoldable pub coheres : Plan → Fates → List Bool → List Bool → List Entry → ℕ → Bool

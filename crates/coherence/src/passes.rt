@@ -5,8 +5,11 @@ use super::listing::list_events;
 use plan::event::Event;
 use plan::event::are_bad;
 use plan::event::is_delayable;
+use plan::event::is_forcible;
+use plan::event::is_rejectable;
 use plan::fate::Fate;
 use plan::fate::Standing;
+use plan::fate::is_done;
 use plan::fate::is_held;
 use plan::fate::is_open;
 use plan::fate::is_settled;
@@ -20,12 +23,12 @@ ghost use mathlib.Core.List.{List};
 ghost use mathlib.Core.Path.{_≡_};
 ghost use Prim.Native.Nat.{ℕ, _≤_};
 ghost use lib.ListN.{take};
-ghost use Rattle.plan.specs.Fates.{Fates, isHeld, fatesOf};
+ghost use Rattle.plan.specs.Fates.{isOpen, isHeld, fatesOf};
 ghost use Rattle.plan.specs.Plans.{holdsBit, eventCount, ruleCount};
 ghost use Rattle.plan.specs.Rules.{badStep, badAttributes, named, enforceable};
 ghost use Rattle.plan.specs.Histories.{holds};
 ghost use Rattle.coherence.specs.Listings.{Placed, placeIn, Marked};
-ghost use Rattle.coherence.specs.Cohering.{eventsCohere, rulesCohere, coheres};
+ghost use Rattle.coherence.specs.Cohering.{eventsCohere, rulesCohere, coheres, awaits};
 
 // Do the parts of a state hang together? Where they do not, number 12 applies.
 pub fn does_cohere(
@@ -52,7 +55,7 @@ pub fn does_cohere(
     if !are_events_coherent(plan, standings, closed, listed) {
         return false;
     }
-    are_rules_coherent(plan, broken, places)
+    are_rules_coherent(plan, standings, broken, places)
 }
 
 // Do the declared events hang together with the history and the steps? `listed` says which have a line.
@@ -103,9 +106,14 @@ fn may_be_held(event: Event, fate: Fate) -> bool
 
 // Do the declared rules hang together with the events and the history? The events do; `places` says which are done,
 // and in which order.
-fn are_rules_coherent(plan: Plan, broken: [bool; 16], places: [u8; 16]) -> bool
+fn are_rules_coherent(
+    plan: Plan,
+    standings: [Standing; 16],
+    broken: [bool; 16],
+    places: [u8; 16],
+) -> bool
     requires { ⌜ (eventCount plan ≤ 16) × (ruleCount plan ≤ 16) ⌝ }
-    ensures { λ r. ⌜ ((f : Fates) (closed : List Bool) (h : List Entry) → Placed h (placeIn places) → eventsCohere plan f closed h ≡ true → r ≡ rulesCohere plan f broken h) ⌝ }
+    ensures { λ r. ⌜ ((closed : List Bool) (h : List Entry) → Placed h (placeIn places) → eventsCohere plan (fatesOf standings) closed h ≡ true → r ≡ rulesCohere plan (fatesOf standings) broken h) ⌝ }
 {
     let event_count = plan.event_count;
     let rule_count = plan.rule_count;
@@ -118,7 +126,8 @@ fn are_rules_coherent(plan: Plan, broken: [bool; 16], places: [u8; 16]) -> bool
         if !is_admitted(event_count, events, rule) {
             return false;
         }
-        if !(broken[i as usize] | does_hold(places, rule)) {
+        if !(broken[i as usize]
+            | (does_hold(places, rule) & !does_await(events, standings, rule))) {
             return false;
         }
         i += 1;
@@ -149,4 +158,36 @@ fn does_hold(places: [u8; 16], rule: Rule) -> bool
             !((0 < places[a as usize]) & (0 < places[b as usize]) & !(0 < places[c as usize]))
         }
     }
+}
+
+// Does a conditional owe because nothing can stop one of its triggers, which is open, while the other is done (6.10)?
+fn does_await(events: [Event; 16], standings: [Standing; 16], rule: Rule) -> bool
+    requires { ⌜ ((n : ℕ) × (n ≤ 16) × (named n rule ≡ true)) ⌝ }
+    ensures { λ r. ⌜ ((p : Plan) → p .events ≡ events → r ≡ awaits p (fatesOf standings) rule) ⌝ }
+{
+    match rule {
+        Rule::Order(a, b) => false,
+        Rule::Need(a, b) => false,
+        Rule::Conditional(a, b, c) => {
+            let first = standings[a as usize];
+            let second = standings[b as usize];
+            let third = standings[c as usize];
+            let x = first.fate;
+            let y = second.fate;
+            let z = third.fate;
+            let early = events[a as usize];
+            let late = events[b as usize];
+            let called = events[c as usize];
+            ((is_done(x) & is_unstoppable(late, y)) | (is_done(y) & is_unstoppable(early, x)))
+                & !is_forcible(called.attributes)
+                & !is_settled(z)
+        }
+    }
+}
+
+// Is the event open, and can neither be refused nor wait?
+fn is_unstoppable(event: Event, fate: Fate) -> bool
+    ensures { λ r. ⌜ r ≡ (isOpen fate && not (holdsBit 2 (event .attributes)) && not (holdsBit 4 (event .attributes))) ⌝ }
+{
+    is_open(fate) & !is_rejectable(event.attributes) & !is_delayable(event.attributes)
 }

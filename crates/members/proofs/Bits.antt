@@ -1,13 +1,13 @@
 -- Sets as the bits of a number: what the operations on numbers make of the tests.
-use Prim.Native.Nat.{ℕ, zero, suc, _*_, _/_, _%_, _^_, _≤_, _<_}
+use Prim.Native.Nat.{ℕ, zero, suc, _-_, _*_, _/_, _%_, _^_, _≤_, _<_}
 use native.Mathlib.Nat.{mod-lt, zero-div}
 use native.Mathlib.Omega.{arith}
-use borrow.Author.Tests.{lt-ltb, le-ltb, ltb-true, ltb-false, ne-eqb}
+use borrow.Author.Tests.{lt-ltb, le-ltb, ltb-true, ltb-false, leb-true, ne-eqb}
 use mathlib.Core.Bool.{Bool, true, false, not, _&&_, _||_, and-true, and-false, or-comm, and-comm as bool-and-comm, and-or-distrib-left}
 use mathlib.Core.Logic.{inl, inr}
-use mathlib.Core.Path.{_≡_, refl, _∙_, ap}
+use mathlib.Core.Path.{_≡_, refl, sym, _∙_, ap}
 use lib.Bits.{bitAnd, bitOr, bitXor, and-mask, and-shr, or-shr, xor-shr, and-mod, or-mod, xor-mod}
-use lib.Dec.{eqb, ltb}
+use lib.Dec.{eqb, ltb, leb}
 use Rattle.plan.specs.Base.{allBelow}
 use Rattle.plan.proofs.Tests.{and-left, and-right, all-at, either}
 use Rattle.members.specs.Sets.{inSet}
@@ -128,6 +128,42 @@ in-lone e x lt = elim (either (ltb x 16)) [
   where
     go : ltb x 16 ≡ false → inSet (lone e) x ≡ eqb x e
     go t = in-past (lone e) x (ltb-false x 16 t) ∙ rw (ne-eqb x e (λ q. omega (arith, ltb-false x 16 t)))
+
+-- the events below a number, as code makes their set
+abbrev pub lower : ℕ → ℕ
+lower n = lone n - 1
+
+lower-agrees : allBelow 16 (λ n. leb 1 (lone n) && allBelow 16 (λ x. agree (inSet (lower n) x) (ltb x n))) ≡ true
+unfolding allBelow inSet agree
+lower-agrees = refl
+
+pub lone-some : (n : ℕ) → n < 16 → 1 ≤ lone n
+lone-some n lt = leb-true 1 (lone n) (and-left (leb 1 (lone n)) _ (all-at 16 _ lower-agrees n lt))
+
+pub in-lower : (n x : ℕ) → n < 16 → inSet (lower n) x ≡ (ltb x 16 && ltb x n)
+in-lower n x lt = elim (either (ltb x 16)) [
+  | inl t ↦
+      agreed _ _ (all-at 16 _ (and-right (leb 1 (lone n)) _ (all-at 16 _ lower-agrees n lt)) x (ltb-true x 16 t))
+      ∙ sym (ap (λ (b : Bool). b && ltb x n) t)
+  | inr t ↦ in-past (lower n) x (ltb-false x 16 t) ∙ sym (ap (λ (b : Bool). b && ltb x n) t)
+]
+
+-- all sixteen
+full-agrees : allBelow 16 (λ x. agree (inSet 65535 x) true) ≡ true
+unfolding allBelow inSet agree
+full-agrees = refl
+
+pub in-full : (x : ℕ) → inSet 65535 x ≡ ltb x 16
+in-full x = elim (either (ltb x 16)) [
+  | inl t ↦ agreed _ _ (all-at 16 _ full-agrees x (ltb-true x 16 t)) ∙ sym t
+  | inr t ↦ in-past 65535 x (ltb-false x 16 t) ∙ sym t
+]
+
+pub in-all : (n x : ℕ) → 16 ≤ n → inSet 65535 x ≡ (ltb x 16 && ltb x n)
+in-all n x ge = elim (either (ltb x 16)) [
+  | inl t ↦ in-full x ∙ rw (t, lt-ltb x n (omega (arith, ltb-true x 16 t)))
+  | inr t ↦ in-full x ∙ rw t
+]
 
 -- one event more
 pub in-more : (m e x : ℕ) → e < 16 → inSet (bitOr m (lone e)) x ≡ (eqb x e || inSet m x)

@@ -1,14 +1,14 @@
--- What one rule asks for, forbids, owes and blocks, over sets as code reads and makes them.
+-- What one rule reckons with, asks for, forbids, owes and blocks, over sets as code reads and makes them.
 use Prim.Native.Nat.{ℕ, _<_}
 use borrow.Author.Tests.{eqb-true, lt-ltb}
 use mathlib.Core.Bool.{Bool, true, false, not, _&&_, _||_, or-false}
 use mathlib.Core.Logic.{inl, inr}
-use mathlib.Core.Path.{_≡_, refl, sym, _∙_}
+use mathlib.Core.Path.{_≡_, refl, sym, _∙_, ap}
 use lib.Dec.{eqb, ltb}
 use Rattle.plan.specs.declared.rule.Rule.the-variants.{Order, Need, Conditional}
 use Rattle.plan.specs.Fates.{Fates, isDone, isGone}
-use Rattle.plan.specs.Plans.{delayable}
-use Rattle.plan.specs.Rules.{bars, makesWait, forbids, owes}
+use Rattle.plan.specs.Plans.{forcible, delayable}
+use Rattle.plan.specs.Rules.{unstoppable, reckoned, triggered, bars, makesWait, forbids, owes}
 use Rattle.plan.proofs.Tests.{either}
 use Rattle.orders.specs.Closed.{asks}
 use Rattle.orders.specs.Stepwise.{follows}
@@ -56,6 +56,23 @@ both-sorted true true true true false s = refl
 both-sorted true true true false true s = refl
 both-sorted true true true false false s = refl
 
+twice : (b : Bool) → not (not b) ≡ b
+twice true = refl
+twice false = refl
+
+-- a trigger that a conditional reckons with
+pub reckoned-read : (p : Plan) (f : Fates) (v : View)
+    → Shows p f v
+    → (k t : ℕ) (d s c : Bool)
+    → d ≡ inSet (v .done) t
+    → s ≡ inSet (v .stoppable) t
+    → c ≡ inSet (v .forcible) k
+    → (d || (not s && not c)) ≡ reckoned p f k t
+unfolding reckoned
+reckoned-read p f v shows k t d s c hd hs hc =
+    rw (hd, hs, hc, shows .done t, shows .stops t, shows .forces k)
+    (ap (λ (b : Bool). isDone (f t) || (b && not (forcible p k))) (twice (unstoppable p f t)))
+
 module _ (p : Plan) (f : Fates) (v : View) (shows : Shows p f v) (r : Rule) (a b : ℕ) where
   -- what a rule asks for
   module _ (m : ℕ) where
@@ -75,15 +92,17 @@ module _ (p : Plan) (f : Fates) (v : View) (shows : Shows p f v) (r : Rule) (a b
     unfolding asks
     need-asks x y is h k = rw (is, h, k, shows .done a)
 
-    pub conditional-asks : (c : ℕ) (x y z w : Bool)
+    pub conditional-asks : (c : ℕ) (x y dx rx dy ry : Bool)
         → r ≡ Conditional a b c
         → x ≡ inSet m a
-        → y ≡ inSet (v .done) a
-        → z ≡ inSet m b
-        → w ≡ inSet (v .done) b
-        → ((x || y) && (z || w)) ≡ asks p f (inSet m) r
+        → y ≡ inSet m b
+        → dx ≡ inSet (v .done) a
+        → ry ≡ reckoned p f c b
+        → dy ≡ inSet (v .done) b
+        → rx ≡ reckoned p f c a
+        → (((x || dx) && (y || ry)) || ((y || dy) && (x || rx))) ≡ asks p f (inSet m) r
     unfolding asks
-    conditional-asks c x y z w is h k i j = rw (is, h, k, i, j, shows .done a, shows .done b)
+    conditional-asks c x y dx rx dy ry is hx hy kx jy ky jx = rw (is, hx, hy, kx, jy, ky, jx, shows .done a, shows .done b)
 
   -- what it forbids
   module _ (e : ℕ) where
@@ -105,12 +124,12 @@ module _ (p : Plan) (f : Fates) (v : View) (shows : Shows p f v) (r : Rule) (a b
     pub conditional-forbids : (c : ℕ) (g d x : Bool)
         → r ≡ Conditional a b c
         → g ≡ inSet (v .gone) c
-        → d ≡ inSet (v .done) b
-        → x ≡ inSet (v .done) a
+        → d ≡ reckoned p f c b
+        → x ≡ reckoned p f c a
         → (g && ((eqb e a && d) || (eqb e b && x))) ≡ forbids p f r e
     unfolding forbids bars makesWait
     conditional-forbids c g d x is hg hd hx =
-        rw (is, hg, hd, hx, shows .gone c, shows .done b, shows .done a) (sym (or-false (isGone (f c) && _)))
+        rw (is, hg, hd, hx, shows .gone c) (sym (or-false (isGone (f c) && _)))
 
   -- what it owes
   pub order-owes : r ≡ Order a b → false ≡ owes p f r
@@ -126,16 +145,18 @@ module _ (p : Plan) (f : Fates) (v : View) (shows : Shows p f v) (r : Rule) (a b
   unfolding owes
   need-owes x y z is hx hy hz = rw (is, hx, hy, hz, shows .done a, shows .done b, shows .gone b)
 
-  pub conditional-owes : (c : ℕ) (x y z w : Bool)
+  pub conditional-owes : (c : ℕ) (x ry y rx z w : Bool)
       → r ≡ Conditional a b c
       → x ≡ inSet (v .done) a
+      → ry ≡ reckoned p f c b
       → y ≡ inSet (v .done) b
+      → rx ≡ reckoned p f c a
       → z ≡ inSet (v .done) c
       → w ≡ inSet (v .gone) c
-      → ((x && y) && not (z || w)) ≡ owes p f r
-  unfolding owes
-  conditional-owes c x y z w is hx hy hz hw =
-      rw (is, hx, hy, hz, hw, shows .done a, shows .done b, shows .done c, shows .gone c)
+      → (((x && ry) || (y && rx)) && not (z || w)) ≡ owes p f r
+  unfolding owes triggered
+  conditional-owes c x ry y rx z w is hx jy hy jx hz hw =
+      rw (is, hx, jy, hy, jx, hz, hw, shows .done a, shows .done b, shows .done c, shows .gone c)
 
   -- what it blocks: the set m, then with a, then with b
   module _ (left m : ℕ) (x : ℕ) (lt : x < 16) where
@@ -170,13 +191,13 @@ module _ (p : Plan) (f : Fates) (v : View) (shows : Shows p f v) (r : Rule) (a b
     pub conditional-blocks : (c n k : ℕ) (g d e : Bool)
         → r ≡ Conditional a b c
         → g ≡ inSet (v .gone) c
-        → d ≡ inSet (v .done) b
+        → d ≡ reckoned p f c b
         → inSet k x ≡ ((eqb x a && (ltb a 16 && (g && d))) || inSet m x)
-        → e ≡ inSet (v .done) a
+        → e ≡ reckoned p f c a
         → inSet n x ≡ ((eqb x b && (ltb b 16 && (g && e))) || inSet k x)
         → Blocks n
     unfolding bars follows
     conditional-blocks c n k g d e is hg hd hk he hn =
         with-at k n b x (g && e) lt hn
-        ∙ rw (with-at m k a x (g && d) lt hk, is, hg, hd, he, shows .gone c, shows .done a, shows .done b)
-        (both-sorted (isGone (f c)) (eqb x a) (eqb x b) (isDone (f b)) (isDone (f a)) (inSet m x))
+        ∙ rw (with-at m k a x (g && d) lt hk, is, hg, hd, he, shows .gone c)
+        (both-sorted (isGone (f c)) (eqb x a) (eqb x b) (reckoned p f c b) (reckoned p f c a) (inSet m x))

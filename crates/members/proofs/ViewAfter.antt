@@ -7,8 +7,8 @@ use mathlib.Core.Path.{_≡_, refl, sym, _∙_, ap}
 use lib.Dec.{eqb, ltb}
 use Rattle.plan.specs.declared.fate.Fate.the-variants.{Done, Forced}
 use Rattle.plan.specs.Fates.{Fates, isOpen, isHeld, isDone, isGone}
-use Rattle.plan.specs.Plans.{eventCount, forcible}
-use Rattle.plan.specs.Rules.{ready}
+use Rattle.plan.specs.Plans.{eventCount, forcible, rejectable, delayable}
+use Rattle.plan.specs.Rules.{unstoppable, ready}
 use Rattle.plan.proofs.Fates.{as-done}
 use Rattle.orders.specs.Runs.{doing}
 use Rattle.orders.proofs.Doing.{doing-as, doing-other}
@@ -34,14 +34,22 @@ module _ (p : Plan) (f : Fates) (c : ℕ) (lt : c < 16) (one : ℕ) (is-one : (x
     | no ne ↦ after x ∙ ap (λ (b : Bool). inSet m x && not b) (in-one c one lt is-one x ∙ ne-eqb x c ne) ∙ and-true (inSet m x) ∙ before x ∙ sym (ap (λ (z : Fate). k x && t x z) (doing-other f c x ne))
   ]
 
-  joins : (m n : ℕ)
-      → ((x : ℕ) → inSet m x ≡ isDone (f x))
+  -- and one of events with a fate that is done gains it
+  joins : (t : ℕ → Fate → Bool)
+      → ((x : ℕ) → t x Forced ≡ t x Done)
+      → ((x : ℕ) → t x Done ≡ true)
+      → (m n : ℕ)
+      → ((x : ℕ) → inSet m x ≡ t x (f x))
       → ((x : ℕ) → inSet n x ≡ ((eqb x c && (ltb c 16 && true)) || inSet m x))
       → (x : ℕ)
-      → inSet n x ≡ isDone (doing f c x)
-  joins m n before after x = elim (ℕ-discrete x c) [
-    | yes q ↦ after x ∙ rw (eq-eqb x c q, lt-ltb c 16 lt) (sym (as-done isDone refl (isOpen (f c))))
-    | no ne ↦ after x ∙ rw (ne-eqb x c ne) (before x)
+      → inSet n x ≡ t x (doing f c x)
+  joins t alike set m n before after x = elim (ℕ-discrete x c) [
+    | yes q ↦
+        after x
+        ∙ ap (λ (b : Bool). (b && (ltb c 16 && true)) || inSet m x) (eq-eqb x c q)
+        ∙ ap (λ (b : Bool). (b && true) || inSet m x) (lt-ltb c 16 lt)
+        ∙ sym (doing-as (t x) (alike x) f c x q ∙ set x)
+    | no ne ↦ after x ∙ rw (ne-eqb x c ne) (before x) ∙ sym (ap (t x) (doing-other f c x ne))
   ]
 
   module _ (v w : View) (shows : Shows p f v) where
@@ -50,12 +58,16 @@ module _ (p : Plan) (f : Fates) (c : ℕ) (lt : c < 16) (one : ℕ) (is-one : (x
         → ((x : ℕ) → inSet (w .done) x ≡ ((eqb x c && (ltb c 16 && true)) || inSet (v .done) x))
         → ((x : ℕ) → inSet (w .gone) x ≡ (inSet (v .gone) x && not (inSet one x)))
         → w .waits ≡ v .waits
+        → w .forcible ≡ v .forcible
+        → ((x : ℕ) → inSet (w .stoppable) x ≡ ((eqb x c && (ltb c 16 && true)) || inSet (v .stoppable) x))
         → Shows p (doing f c) w
-    unfolding ready
-    shows-after held able done gone waits = record {
+    unfolding ready unstoppable
+    shows-after held able done gone waits forces stops = record {
       held = leaves (λ x. ltb x (eventCount p)) (λ x. isHeld) (λ x. refl) (λ x. refl) (v .held) (w .held) (shows .held) held;
       able = leaves (λ x. ltb x (eventCount p)) (λ x z. isHeld z || (isOpen z && forcible p x)) (λ x. refl) (λ x. refl) (v .able) (w .able) (shows .able) able;
-      done = joins (v .done) (w .done) (shows .done) done;
+      done = joins (λ x. isDone) (λ x. refl) (λ x. refl) (v .done) (w .done) (shows .done) done;
       gone = leaves (λ x. true) (λ x. isGone) (λ x. refl) (λ x. refl) (v .gone) (w .gone) (shows .gone) gone;
       waits = λ x. ap (λ (m : ℕ). inSet m x) waits ∙ shows .waits x;
+      forces = λ x. ap (λ (m : ℕ). inSet m x) forces ∙ shows .forces x;
+      stops = joins (λ x z. not (isOpen z && not (rejectable p x) && not (delayable p x))) (λ x. refl) (λ x. refl) (v .stoppable) (w .stoppable) (shows .stops) stops;
     }

@@ -15,4 +15,5 @@ pub use Rattle.plan.specs.declared.rule.Rule.the-variants.{Order, Need, Conditi
 pub use Rattle.plan.specs.declared.rule.RuleLine.{RuleLine}
 pub use Rattle.plan.specs.declared.plan.Plan.{Plan}
 pub use Rattle.members.specs.declared.view.View.{View}
+pub use Rattle.members.specs.declared.view.Facts.{Facts}
 pub use Rattle.members.specs.declared.closed.Members.{Members}

@@ -1,9 +1,9 @@
 -- Sets of the sixteen events as the bits of a number.
-use Rattle.members.specs.Prelude.{ℕ, _/_, _^_, Bool, false, not, _&&_, List, Option, none, some, _≡_, bitAnd, eqb, ltb, Plan, View}
+use Rattle.members.specs.Prelude.{ℕ, _/_, _^_, Bool, false, not, _&&_, List, Option, none, some, _≡_, bitAnd, eqb, ltb, Standing, Event, Plan, View, Facts}
 use Rattle.plan.specs.Base.{readAt}
-use Rattle.plan.specs.Fates.{Fates, isHeld, isDone, isGone}
-use Rattle.plan.specs.Plans.{eventCount, delayable}
-use Rattle.plan.specs.Rules.{ready}
+use Rattle.plan.specs.Fates.{Fates, fatesOf, isOpen, isHeld, isDone, isGone}
+use Rattle.plan.specs.Plans.{blankEvent, holdsBit, eventCount, forcible, delayable}
+use Rattle.plan.specs.Rules.{unstoppable, ready}
 use Rattle.orders.specs.Closed.{Events}
 
 -- the bit of an event
@@ -26,3 +26,18 @@ pub record Shows (p : Plan) (f : Fates) (v : View) : Type 0 where
   pub done : (x : ℕ) → inSet (v .done) x ≡ isDone (f x)
   pub gone : (x : ℕ) → inSet (v .gone) x ≡ isGone (f x)
   pub waits : (x : ℕ) → inSet (v .waits) x ≡ delayable p x
+  pub forces : (x : ℕ) → inSet (v .forcible) x ≡ forcible p x
+  pub stops : (x : ℕ) → inSet (v .stoppable) x ≡ not (unstoppable p f x)
+
+-- the attributes in a place of an array of events
+abbrev pub bitsIn : List Event → ℕ → ℕ
+bitsIn events x = readAt 16 events x blankEvent .attributes
+
+-- what sets say of the fates and attributes in the sixteen places of two arrays
+pub record Tells (events : List Event) (standings : List Standing) (v : Facts) : Type 0 where
+  pub helds : (x : ℕ) → inSet (v .held) x ≡ (ltb x 16 && isHeld (fatesOf standings x))
+  pub opens : (x : ℕ) → inSet (v .comes) x ≡ (ltb x 16 && isOpen (fatesOf standings x))
+  pub gones : (x : ℕ) → inSet (v .gone) x ≡ (ltb x 16 && isGone (fatesOf standings x))
+  pub delays : (x : ℕ) → inSet (v .waits) x ≡ (ltb x 16 && holdsBit 4 (bitsIn events x))
+  pub forces : (x : ℕ) → inSet (v .forcible) x ≡ (ltb x 16 && holdsBit 1 (bitsIn events x))
+  pub refusals : (x : ℕ) → inSet (v .refusable) x ≡ (ltb x 16 && holdsBit 2 (bitsIn events x))

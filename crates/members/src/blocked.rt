@@ -1,4 +1,5 @@
 // The events that may not come next.
+use super::rule::is_reckoned;
 use super::set::is_in;
 use super::set::with_if;
 use super::view::View;
@@ -53,8 +54,8 @@ fn add_blocked(set: u16, rule: Rule, view: View, left: u16) -> u16
         Rule::Need(a, b) => with_if(set, a, is_in(view.gone, b)),
         Rule::Conditional(a, b, c) => {
             let gone = is_in(view.gone, c);
-            let second = with_if(set, a, gone & is_in(view.done, b));
-            with_if(second, b, gone & is_in(view.done, a))
+            let second = with_if(set, a, gone & is_reckoned(view, c, b));
+            with_if(second, b, gone & is_reckoned(view, c, a))
         }
     }
 }

@@ -1,4 +1,5 @@
 // The least set of events that have to be done together with one.
+use super::rule::is_reckoned;
 use super::set::is_in;
 use super::set::with_if;
 use super::view::View;
@@ -129,7 +130,10 @@ fn does_ask(rule: Rule, members: u16, view: View) -> bool
         Rule::Order(a, b) => is_in(members, b) & is_in(view.waits, b),
         Rule::Need(a, b) => is_in(members, a) | is_in(view.done, a),
         Rule::Conditional(a, b, c) => {
-            (is_in(members, a) | is_in(view.done, a)) & (is_in(members, b) | is_in(view.done, b))
+            let first = is_in(members, a);
+            let second = is_in(members, b);
+            ((first | is_in(view.done, a)) & (second | is_reckoned(view, c, b)))
+                | ((second | is_in(view.done, b)) & (first | is_reckoned(view, c, a)))
         }
     }
 }

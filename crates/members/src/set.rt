@@ -28,6 +28,17 @@ pub fn with_if(set: u16, event: u8, is: bool) -> u16
     }
 }
 
+// The events below a number.
+pub fn first_of(count: u8) -> u16
+    ensures { λ r. ⌜ ((x : ℕ) → inSet r x ≡ (ltb x 16 && ltb x count)) ⌝ }
+{
+    if count < 16 {
+        (1u16 << (count as u16)) - 1
+    } else {
+        65535
+    }
+}
+
 // The events of both sets.
 pub fn common(set: u16, other: u16) -> u16
     ensures { λ r. ⌜ ((x : ℕ) → inSet r x ≡ (inSet set x && inSet other x)) ⌝ }

@@ -1,11 +1,13 @@
 // The fates and attributes of the sixteen events as sets.
+use super::set::common;
+use super::set::first_of;
 use super::set::with_if;
 use super::set::without;
 use plan::event::Event;
 use plan::event::is_delayable;
 use plan::event::is_forcible;
+use plan::event::is_rejectable;
 use plan::fate::Standing;
-use plan::fate::is_done;
 use plan::fate::is_gone;
 use plan::fate::is_held;
 use plan::fate::is_open;
@@ -15,51 +17,85 @@ ghost use Rattle.plan.specs.Fates.{Fates, fatesOf};
 ghost use Rattle.plan.specs.Plans.{eventCount};
 ghost use Rattle.orders.specs.Runs.{doing};
 ghost use Rattle.members.specs.Prelude.{Plan};
-ghost use Rattle.members.specs.Sets.{Shows};
+ghost use Rattle.members.specs.Sets.{Shows, Tells};
 
 // The declared events that are held, the declared ones at hand (held, or open and forcible), those that are done,
-// those refused or lapsed, and those that may wait.
+// those refused or lapsed, those that may wait, those that are no more open, or can be refused or wait (all but the
+// ones that nothing can stop), and those that can be forced.
 pub struct View {
     pub held: u16,
     pub able: u16,
     pub done: u16,
     pub gone: u16,
     pub waits: u16,
+    pub stoppable: u16,
+    pub forcible: u16,
 }
 
 // The view of a plan's events and their fates; past the count nothing is held or at hand.
 pub fn view_of(events: [Event; 16], count: u8, standings: [Standing; 16]) -> View
     ensures { λ r. ⌜ ((p : Plan) → p .events ≡ events → eventCount p ≡ count → Shows p (fatesOf standings) r) ⌝ }
 {
+    let facts = facts_of(events, standings);
+    let held = facts.held;
+    let comes = facts.comes;
+    let gone = facts.gone;
+    let waits = facts.waits;
+    let forcible = facts.forcible;
+    let declared = first_of(count);
+    View {
+        held: common(held, declared),
+        able: common(held | common(comes, forcible), declared),
+        done: without(65535, held | comes | gone),
+        gone,
+        waits,
+        stoppable: without(65535, comes) | facts.refusable | waits,
+        forcible,
+    }
+}
+
+// What single fates and attributes say of the sixteen events: those held, open, and refused or lapsed; those that may
+// wait, those that can be forced, and those that can be refused.
+struct Facts {
+    pub held: u16,
+    pub comes: u16,
+    pub gone: u16,
+    pub waits: u16,
+    pub forcible: u16,
+    pub refusable: u16,
+}
+
+// One pass over the events.
+fn facts_of(events: [Event; 16], standings: [Standing; 16]) -> Facts
+    ensures { λ r. ⌜ Tells events standings r ⌝ }
+{
     let mut held: u16 = 0;
-    let mut able: u16 = 0;
-    let mut done: u16 = 0;
+    let mut comes: u16 = 0;
     let mut gone: u16 = 0;
     let mut waits: u16 = 0;
+    let mut forcible: u16 = 0;
+    let mut refusable: u16 = 0;
     let mut e: u8 = 0;
     while e < 16 {
         let standing = standings[e as usize];
         let fate = standing.fate;
         let event = events[e as usize];
         let attributes = event.attributes;
-        let is = is_held(fate);
-        held = with_if(held, e, (e < count) & is);
-        able = with_if(
-            able,
-            e,
-            (e < count) & (is | (is_open(fate) & is_forcible(attributes))),
-        );
-        done = with_if(done, e, is_done(fate));
+        held = with_if(held, e, is_held(fate));
+        comes = with_if(comes, e, is_open(fate));
         gone = with_if(gone, e, is_gone(fate));
         waits = with_if(waits, e, is_delayable(attributes));
+        forcible = with_if(forcible, e, is_forcible(attributes));
+        refusable = with_if(refusable, e, is_rejectable(attributes));
         e += 1;
     }
-    View {
+    Facts {
         held,
-        able,
-        done,
+        comes,
         gone,
         waits,
+        forcible,
+        refusable,
     }
 }
 
@@ -74,5 +110,7 @@ pub fn view_after(view: View, event: u8) -> View
         done: with_if(view.done, event, true),
         gone: without(view.gone, one),
         waits: view.waits,
+        stoppable: with_if(view.stoppable, event, true),
+        forcible: view.forcible,
     }
 }

@@ -11,7 +11,8 @@ use Rattle.orders.specs.Prelude.{Rule, Order, Need, Conditional, Plan}
 use Rattle.plan.specs.Base.{anyBelow, countBelow, oneIf}
 use Rattle.plan.specs.Fates.{Fates, isDone, isSettled}
 use Rattle.plan.specs.Plans.{ruleCount, ruleAt, delayable}
-use Rattle.orders.specs.Closed.{Events, Stands, Has, Wants, first, one, both, Closed, asks, target}
+use Rattle.plan.specs.Rules.{reckoned}
+use Rattle.orders.specs.Closed.{Events, Stands, Has, Reckons, Wants, first, one, both, turned, Closed, asks, target}
 use Rattle.orders.specs.Leasts.{calls, adding, pass, passes, leastSet}
 use Rattle.plan.proofs.Tests.{and-left, and-right, and-both, or-either, or-right-true, clash, either, any-false, any-found, count-le}
 
@@ -52,12 +53,31 @@ has-or : (f : Fates) (m : Events) (a : ℕ) → Has f m a → (m a || isDone (f 
 has-or f m a (inl t) = rw t
 has-or f m a (inr t) = rw t (or-right-true (m a))
 
+reckons-or : (p : Plan) (f : Fates) (m : Events) (c a : ℕ) → Reckons p f m c a → (m a || reckoned p f c a) ≡ true
+reckons-or p f m c a (inl t) = rw t
+reckons-or p f m c a (inr t) = rw t (or-right-true (m a))
+
+-- the two ways in which a conditional asks, by which of its triggers is done or to be done
+module _ (p : Plan) (f : Fates) (m : Events) (a b c : ℕ) where
+  abbrev asksBy : ℕ → ℕ → Bool
+  asksBy x y = (m x || isDone (f x)) && (m y || reckoned p f c y)
+
+  by-both : (x y : ℕ) → Has f m x → Reckons p f m c y → asksBy x y ≡ true
+  by-both x y t v = and-both (m x || isDone (f x)) (m y || reckoned p f c y) (has-or f m x t) (reckons-or p f m c y v)
+
+  by-first : (x y : ℕ) → asksBy x y ≡ true → Has f m x
+  by-first x y h = or-either (m x) (isDone (f x)) (and-left (m x || isDone (f x)) (m y || reckoned p f c y) h)
+
+  by-second : (x y : ℕ) → asksBy x y ≡ true → Reckons p f m c y
+  by-second x y h = or-either (m y) (reckoned p f c y) (and-right (m x || isDone (f x)) (m y || reckoned p f c y) h)
+
 pub wants-asks : (p : Plan) (f : Fates) (m : Events) (r : Rule) → Wants p f m r → asks p f m r ≡ true
 unfolding asks
 wants-asks p f m r (first {b = b} t d u) = rw (t, d)
 wants-asks p f m r (one {a = a} t u) = has-or f m a t
-wants-asks p f m r (both {a = a} {b = b} t v u) =
-    and-both (m a || isDone (f a)) (m b || isDone (f b)) (has-or f m a t) (has-or f m b v)
+wants-asks p f m r (both {a = a} {b = b} {c = c} t v u) = rw (by-both p f m a b c a b t v)
+wants-asks p f m r (turned {a = a} {b = b} {c = c} t v u) =
+    rw (by-both p f m a b c b a t v) (or-right-true (asksBy p f m a b c a b))
 
 pub asks-wants : (p : Plan) (f : Fates) (m : Events) (r : Rule)
     → asks p f m r ≡ true
@@ -66,25 +86,33 @@ pub asks-wants : (p : Plan) (f : Fates) (m : Events) (r : Rule)
 unfolding asks
 asks-wants p f m (Order a b) h u = first (and-left (m b) (delayable p b) h) (and-right (m b) (delayable p b) h) u
 asks-wants p f m (Need a b) h u = one (or-either (m a) (isDone (f a)) h) u
-asks-wants p f m (Conditional a b c) h u =
-    let s = m a || isDone (f a) in
-    let t = m b || isDone (f b) in
-    both (or-either (m a) (isDone (f a)) (and-left s t h)) (or-either (m b) (isDone (f b)) (and-right s t h)) u
+asks-wants p f m (Conditional a b c) h u = elim (or-either (asksBy p f m a b c a b) (asksBy p f m a b c b a) h) [
+  | inl t ↦ both (by-first p f m a b c a b t) (by-second p f m a b c a b t) u
+  | inr t ↦ turned (by-first p f m a b c b a t) (by-second p f m a b c b a t) u
+]
 
 -- it is not settled, and stays asked for in a larger set
 pub wants-unsettled : {p : Plan} {f : Fates} {m : Events} {r : Rule} → Wants p f m r → isSettled (f (target r)) ≡ false
 wants-unsettled (first t d u) = u
 wants-unsettled (one t u) = u
 wants-unsettled (both t v u) = u
+wants-unsettled (turned t v u) = u
 
 has-more : (f : Fates) (m n : Events) → Within m n → (a : ℕ) → Has f m a → Has f n a
 has-more f m n w a (inl h) = inl (w a h)
 has-more f m n w a (inr h) = inr h
 
+reckons-more : (p : Plan) (f : Fates) (m n : Events) → Within m n → (c a : ℕ) → Reckons p f m c a → Reckons p f n c a
+reckons-more p f m n w c a (inl h) = inl (w a h)
+reckons-more p f m n w c a (inr h) = inr h
+
 pub wants-more : {p : Plan} {f : Fates} {m : Events} {r : Rule} (n : Events) → Within m n → Wants p f m r → Wants p f n r
 wants-more n w (first {b = b} t d u) = first (w b t) d u
 wants-more {f = f} {m = m} n w (one {a = a} t u) = one (has-more f m n w a t) u
-wants-more {f = f} {m = m} n w (both {a = a} {b = b} t v u) = both (has-more f m n w a t) (has-more f m n w b v) u
+wants-more {p = p} {f = f} {m = m} n w (both {a = a} {b = b} {c = c} t v u) =
+    both (has-more f m n w a t) (reckons-more p f m n w c b v) u
+wants-more {p = p} {f = f} {m = m} n w (turned {a = a} {b = b} {c = c} t v u) =
+    turned (has-more f m n w b t) (reckons-more p f m n w c a v) u
 
 -- what two sets share
 abbrev pub shared : Events → Events → Events

@@ -10,10 +10,11 @@ use lib.ListN.{length}
 use Rattle.orders.specs.Prelude.{Fate, Rule, Plan}
 use Rattle.plan.specs.Base.{among}
 use Rattle.plan.specs.Fates.{Fates, isOpen, isDone, isGone, isSettled, doneAs}
-use Rattle.orders.specs.Closed.{Events, Stands, Has, first, one, both, Closed}
-use Rattle.orders.specs.Runs.{doing, Bars, late, lost, second, other, Waits, waits, Owed, needed, called, May, Run}
+use Rattle.plan.specs.Rules.{reckoned}
+use Rattle.orders.specs.Closed.{Events, Stands, Has, Reckons, first, one, both, turned, Closed}
+use Rattle.orders.specs.Runs.{doing, Bars, late, lost, second, other, Waits, waits, Owed, needed, called, recalled, May, Run}
 use Rattle.plan.proofs.Tests.{clash, either}
-use Rattle.orders.proofs.Doing.{gone-settled, doing-as, doing-same, doing-other, ready-unsettled, ready-same, done-before, unsettled-before}
+use Rattle.orders.proofs.Doing.{gone-settled, doing-as, doing-same, doing-other, ready-unsettled, ready-same, done-before, unsettled-before, reckoned-done, reckoned-same, reckoned-before}
 use Rattle.orders.proofs.Running.{among-head, among-tail, among-cases, among-none}
 
 -- the events of an order that lie in m
@@ -56,27 +57,39 @@ module _ (p : Plan) (l : ℕ → Bool) (m : Events) (f : Fates) (c : ℕ) (t : m
   has-before j (inl h) = inl h
   has-before j (inr d) = elim (done-before f c j d) [ inl q ↦ inl (subst (λ (z : ℕ). m z ≡ true) (sym q) t) | inr h ↦ inr h ]
 
+  reckons-before : (k j : ℕ) → Reckons p (doing f c) m k j → Reckons p f m k j
+  reckons-before k j (inl h) = inl h
+  reckons-before k j (inr d) =
+      elim (reckoned-before p f c k j d) [ inl q ↦ inl (subst (λ (z : ℕ). m z ≡ true) (sym q) t) | inr h ↦ inr h ]
+
   pub closed-stays : Closed p l f m → Closed p l (doing f c) m
   closed-stays cl r st (first {a = a} n d u) = cl r st (first n d (unsettled-before f c a u))
   closed-stays cl r st (one {a = a} {b = b} n u) = cl r st (one (has-before a n) (unsettled-before f c b u))
   closed-stays cl r st (both {a = a} {b = b} {c = x} n o u) =
-      cl r st (both (has-before a n) (has-before b o) (unsettled-before f c x u))
+      cl r st (both (has-before a n) (reckons-before x b o) (unsettled-before f c x u))
+  closed-stays cl r st (turned {a = a} {b = b} {c = x} n o u) =
+      cl r st (turned (has-before b n) (reckons-before x a o) (unsettled-before f c x u))
 
 module _ (p : Plan) (l : ℕ → Bool) (m : Events) where
   module _ (g h : Fates) (k : (j : ℕ) → Kept m j (g j) (h j)) (cl : Closed p l h m) where
     still : (j : ℕ) → m j ≡ true → isSettled (h j) ≡ false → isSettled (g j) ≡ false
     still j t u = subst (λ (x : Fate). isSettled x ≡ false) (kept-same m (k j) t) u
 
-    kept-owed : (r : Rule) → Stands p l r → Owed h r → Owed g r
+    kept-reckoned : (i j : ℕ) → reckoned p h i j ≡ true → reckoned p g i j ≡ true
+    kept-reckoned i j d = elim (k j) [ inl q ↦ reckoned-same p h g i j q d | inr z ↦ reckoned-done p g i j (z .1) ]
+
+    kept-owed : (r : Rule) → Stands p l r → Owed p h r → Owed p g r
     kept-owed r st (needed {a = a} {b = b} d u) = needed (kept-done m (k a) d) (still b (cl r st (one (inr d) u)) u)
     kept-owed r st (called {a = a} {b = b} {c = c} d e u) =
-        called (kept-done m (k a) d) (kept-done m (k b) e) (still c (cl r st (both (inr d) (inr e) u)) u)
+        called (kept-done m (k a) d) (kept-reckoned c b e) (still c (cl r st (both (inr d) (inr e) u)) u)
+    kept-owed r st (recalled {a = a} {b = b} {c = c} d e u) =
+        recalled (kept-done m (k b) d) (kept-reckoned c a e) (still c (cl r st (turned (inr d) (inr e) u)) u)
 
-    kept-bars : (x : ℕ) (r : Rule) → Bars h x r → Bars g x r
+    kept-bars : (x : ℕ) (r : Rule) → Bars p h x r → Bars p g x r
     kept-bars x r (late {b = b} q d) = late q (kept-done m (k b) d)
     kept-bars x r (lost {b = b} q e) = lost q (kept-gone m (k b) e)
-    kept-bars x r (second {b = b} {c = c} q d e) = second q (kept-done m (k b) d) (kept-gone m (k c) e)
-    kept-bars x r (other {a = a} {c = c} q d e) = other q (kept-done m (k a) d) (kept-gone m (k c) e)
+    kept-bars x r (second {b = b} {c = c} q d e) = second q (kept-reckoned c b d) (kept-gone m (k c) e)
+    kept-bars x r (other {a = a} {c = c} q d e) = other q (kept-reckoned c a d) (kept-gone m (k c) e)
 
     kept-waits : (x : ℕ) → m x ≡ true → (r : Rule) → Stands p l r → Waits p h x r → Waits p g x r
     kept-waits x t r st (waits {a = a} {b = b} q d u) =

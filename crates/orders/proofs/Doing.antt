@@ -2,13 +2,13 @@
 use Prim.Native.Nat.{ℕ}
 use native.Mathlib.Decide.{ℕ-discrete}
 use borrow.Author.Tests.{eq-eqb, ne-eqb}
-use mathlib.Core.Bool.{true, false, _&&_, _||_}
+use mathlib.Core.Bool.{true, false, not, _&&_, _||_}
 use mathlib.Core.Logic.{_≢_, _⊎_, inl, inr}
 use mathlib.Core.Path.{_≡_, refl, sym, _∙_, ap, subst, fun-ext}
 use Rattle.orders.specs.Prelude.{Fate, Open, Held, Done, Refused, Lapsed, Forced, Plan}
 use Rattle.plan.specs.Fates.{Fates, isOpen, isHeld, isDone, isGone, isSettled, doneAs}
-use Rattle.plan.specs.Plans.{forcible}
-use Rattle.plan.specs.Rules.{ready}
+use Rattle.plan.specs.Plans.{forcible, rejectable, delayable}
+use Rattle.plan.specs.Rules.{unstoppable, reckoned, ready}
 use Rattle.orders.specs.Runs.{doing}
 use Rattle.plan.proofs.Tests.{clash}
 use Rattle.plan.proofs.Fates.{as-done}
@@ -89,6 +89,30 @@ module _ (f : Fates) (c : ℕ) where
 
   pub ready-stays : (p : Plan) (j : ℕ) → j ≢ c → ready p f j ≡ true → ready p (doing f c) j ≡ true
   ready-stays p j ne h = ready-same p f (doing f c) j (sym (doing-other f c j ne)) h
+
+-- an event that a conditional reckons with: one that is done, or one with the same fate
+pub reckoned-done : (p : Plan) (f : Fates) (k j : ℕ) → isDone (f j) ≡ true → reckoned p f k j ≡ true
+unfolding reckoned
+reckoned-done p f k j h = rw h
+
+pub reckoned-same : (p : Plan) (f g : Fates) (k j : ℕ) → f j ≡ g j → reckoned p f k j ≡ true → reckoned p g k j ≡ true
+unfolding reckoned unstoppable
+reckoned-same p f g k j q h =
+    subst (λ (x : Fate). (isDone x || ((isOpen x && not (rejectable p j) && not (delayable p j)) && not (forcible p k))) ≡ true) q h
+
+-- it stays so, and what is more is the event done
+module _ (p : Plan) (f : Fates) (c : ℕ) where
+  pub reckoned-stays : (k j : ℕ) → reckoned p f k j ≡ true → reckoned p (doing f c) k j ≡ true
+  reckoned-stays k j h = elim (ℕ-discrete j c) [
+    | yes q ↦ reckoned-done p (doing f c) k j (doing-as isDone refl f c j q)
+    | no ne ↦ reckoned-same p f (doing f c) k j (sym (doing-other f c j ne)) h
+  ]
+
+  pub reckoned-before : (k j : ℕ) → reckoned p (doing f c) k j ≡ true → (j ≡ c) ⊎ (reckoned p f k j ≡ true)
+  reckoned-before k j h = elim (ℕ-discrete j c) [
+    | yes q ↦ inl q
+    | no ne ↦ inr (reckoned-same p (doing f c) f k j (doing-other f c j ne) h)
+  ]
 
 -- two events done, in either sequence: the first of them has the same fate
 first-same : (f : Fates) (c d x : ℕ) → x ≡ c → c ≢ d → doing (doing f c) d x ≡ doing (doing f d) c x

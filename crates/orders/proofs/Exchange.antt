@@ -11,9 +11,10 @@ use lib.ListN.{length}
 use Rattle.orders.specs.Prelude.{Rule, Order, Plan}
 use Rattle.plan.specs.Base.{among}
 use Rattle.plan.specs.Fates.{Fates, isDone, isSettled}
+use Rattle.plan.specs.Rules.{reckoned}
 use Rattle.orders.specs.Closed.{Stands}
 use Rattle.orders.specs.Runs.{doing, Bars, late, lost, second, other, Waits, waits, May, Run}
-use Rattle.orders.proofs.Doing.{doing-as, doing-both, ready-unsettled, ready-stays, done-before, gone-before, gone-stays, unsettled-before}
+use Rattle.orders.proofs.Doing.{doing-as, doing-both, ready-unsettled, ready-stays, done-before, gone-before, gone-stays, unsettled-before, reckoned-done, reckoned-before}
 use Rattle.orders.proofs.Running.{among-head, among-tail, among-cases, among-none, no-turn}
 
 -- an order without x
@@ -39,24 +40,27 @@ module _ (p : Plan) (l : ℕ → Bool) (x : ℕ) where
     unsettled = ready-unsettled p f c (run .0 .at-hand)
 
     -- x, once done, would have been barred after c
-    too-late : {r : Rule} → Stands p l r → Bars (doing f c) x r → ⊥
+    too-late : {r : Rule} → Stands p l r → Bars p (doing f c) x r → ⊥
     too-late st b = no-turn p l (doing f c) x st b o (run .1) turn
 
     done-c : {a : ℕ} → c ≡ a → isDone (doing f c a) ≡ true
     done-c {a} q = doing-as isDone refl f c a (sym q)
 
-    moved-bars : (r : Rule) → Stands p l r → Bars (doing f x) c r → ⊥
+    done-reckoned : (k : ℕ) {a : ℕ} → c ≡ a → reckoned p (doing f c) k a ≡ true
+    done-reckoned k {a} q = reckoned-done p (doing f c) k a (done-c q)
+
+    moved-bars : (r : Rule) → Stands p l r → Bars p (doing f x) c r → ⊥
     moved-bars r st (late {a = a} {b = b} q d) = elim (done-before f x b d) [
       | inl z ↦ lead a (subst (λ (y : ℕ). Stands p l (Order a y)) z st) (λ w. ne (q ∙ w)) (among-head a c o (sym q))
       | inr z ↦ run .0 .unbarred r st (late q z)
     ]
     moved-bars r st (lost {b = b} q g) = run .0 .unbarred r st (lost q (gone-before f x b g))
-    moved-bars r st (second {b = b} {c = t} q d g) = elim (done-before f x b d) [
-      | inl z ↦ too-late st (other (sym z) (done-c q) (gone-stays f c unsettled t (gone-before f x t g)))
+    moved-bars r st (second {b = b} {c = t} q d g) = elim (reckoned-before p f x t b d) [
+      | inl z ↦ too-late st (other (sym z) (done-reckoned t q) (gone-stays f c unsettled t (gone-before f x t g)))
       | inr z ↦ run .0 .unbarred r st (second q z (gone-before f x t g))
     ]
-    moved-bars r st (other {a = a} {c = t} q d g) = elim (done-before f x a d) [
-      | inl z ↦ too-late st (second (sym z) (done-c q) (gone-stays f c unsettled t (gone-before f x t g)))
+    moved-bars r st (other {a = a} {c = t} q d g) = elim (reckoned-before p f x t a d) [
+      | inl z ↦ too-late st (second (sym z) (done-reckoned t q) (gone-stays f c unsettled t (gone-before f x t g)))
       | inr z ↦ run .0 .unbarred r st (other q z (gone-before f x t g))
     ]
 

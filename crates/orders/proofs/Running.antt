@@ -13,11 +13,11 @@ use Rattle.orders.specs.Prelude.{Rule, Order, Need, Conditional, Plan}
 use Rattle.plan.specs.Base.{among, countBelow}
 use Rattle.plan.specs.Fates.{Fates, isDone, isSettled}
 use Rattle.plan.specs.Plans.{eventCount, delayable}
-use Rattle.plan.specs.Rules.{ready}
-use Rattle.orders.specs.Closed.{Events, Stands, Has, first, one, both, Closed}
-use Rattle.orders.specs.Runs.{doing, Bars, late, lost, second, other, waits, Owed, needed, called, Run}
+use Rattle.plan.specs.Rules.{ready, reckoned}
+use Rattle.orders.specs.Closed.{Events, Stands, Has, Reckons, first, one, both, turned, Closed}
+use Rattle.orders.specs.Runs.{doing, Bars, late, lost, second, other, waits, Owed, needed, called, recalled, Run}
 use Rattle.plan.proofs.Tests.{or-either, or-right-true, clash, either, count-same, count-zero}
-use Rattle.orders.proofs.Doing.{doing-as, ready-unsettled, done-stays, gone-stays, unsettled-stays, ready-before, ready-other}
+use Rattle.orders.proofs.Doing.{doing-as, ready-unsettled, done-stays, gone-stays, unsettled-stays, ready-before, ready-other, reckoned-done, reckoned-stays}
 
 -- the events of an order, as a set
 abbrev pub inside : List ℕ → Events
@@ -55,6 +55,10 @@ member-after f (c ∷ o) j h = elim (among-cases j c o h) [
   | inr t ↦ member-after (doing f c) o j t
 ]
 
+reckoned-after : (p : Plan) (f : Fates) (o : List ℕ) (k j : ℕ) → reckoned p f k j ≡ true → reckoned p (after f o) k j ≡ true
+reckoned-after p f [] k j h = h
+reckoned-after p f (c ∷ o) k j h = reckoned-after p (doing f c) o k j (reckoned-stays p f c k j h)
+
 settled-after : (f : Fates) (o : List ℕ) (j : ℕ)
     → isSettled (f j) ≡ false
     → isSettled (after f o j) ≡ true
@@ -66,7 +70,7 @@ settled-after f (c ∷ o) j u h = elim (ℕ-discrete j c) [
 ]
 
 module _ (p : Plan) (l : ℕ → Bool) where
-  pub run-end : (f : Fates) (o : List ℕ) → Run p l f o → (r : Rule) → Stands p l r → Owed (after f o) r → ⊥
+  pub run-end : (f : Fates) (o : List ℕ) → Run p l f o → (r : Rule) → Stands p l r → Owed p (after f o) r → ⊥
   run-end f [] run = run
   run-end f (c ∷ o) run = run-end (doing f c) o (run .1)
 
@@ -98,7 +102,15 @@ module _ (p : Plan) (l : ℕ → Bool) where
     has-after a (inl m) = member-after f o a m
     has-after a (inr d) = done-after f o a d
 
-    paid : (r : Rule) (c : ℕ) → Stands p l r → isSettled (f c) ≡ false → (isSettled (after f o c) ≡ false → Owed (after f o) r) → among c o ≡ true
+    reckons-after : (k a : ℕ) → Reckons p f (inside o) k a → reckoned p (after f o) k a ≡ true
+    reckons-after k a (inl m) = reckoned-done p (after f o) k a (member-after f o a m)
+    reckons-after k a (inr d) = reckoned-after p f o k a d
+
+    paid : (r : Rule) (c : ℕ)
+        → Stands p l r
+        → isSettled (f c) ≡ false
+        → (isSettled (after f o c) ≡ false → Owed p (after f o) r)
+        → among c o ≡ true
     paid r c st u owed = elim (either (isSettled (after f o c))) [
       | inl t ↦ settled-after f o c u t
       | inr t ↦ absurd (run-end f o run r st (owed t))
@@ -108,19 +120,22 @@ module _ (p : Plan) (l : ℕ → Bool) where
     pub run-closed : Closed p l f (inside o)
     run-closed r st (first {a = a} {b = b} m d u) = run-waits st d f o run m u
     run-closed r st (one {a = a} {b = b} m u) = paid (Need a b) b st u (λ t. needed (has-after a m) t)
-    run-closed r st (both {a = a} {b = b} {c = c} m n u) = paid (Conditional a b c) c st u (λ t. called (has-after a m) (has-after b n) t)
+    run-closed r st (both {a = a} {b = b} {c = c} m n u) =
+        paid (Conditional a b c) c st u (λ t. called (has-after a m) (reckons-after c b n) t)
+    run-closed r st (turned {a = a} {b = b} {c = c} m n u) =
+        paid (Conditional a b c) c st u (λ t. recalled (has-after b m) (reckons-after c a n) t)
 
   -- what is barred has no turn
-  bars-stay : (f : Fates) (c : ℕ) → isSettled (f c) ≡ false → (x : ℕ) {r : Rule} → Bars f x r → Bars (doing f c) x r
+  bars-stay : (f : Fates) (c : ℕ) → isSettled (f c) ≡ false → (x : ℕ) {r : Rule} → Bars p f x r → Bars p (doing f c) x r
   bars-stay f c u x (late {b = b} q d) = late q (done-stays f c b d)
   bars-stay f c u x (lost {b = b} q g) = lost q (gone-stays f c u b g)
-  bars-stay f c u x (second {b = b} {c = t} q d g) = second q (done-stays f c b d) (gone-stays f c u t g)
-  bars-stay f c u x (other {a = a} {c = t} q d g) = other q (done-stays f c a d) (gone-stays f c u t g)
+  bars-stay f c u x (second {b = b} {c = t} q d g) = second q (reckoned-stays p f c t b d) (gone-stays f c u t g)
+  bars-stay f c u x (other {a = a} {c = t} q d g) = other q (reckoned-stays p f c t a d) (gone-stays f c u t g)
 
-  pub no-turn : (f : Fates) (x : ℕ) {r : Rule} → Stands p l r → Bars f x r → (o : List ℕ) → Run p l f o → among x o ≡ true → ⊥
+  pub no-turn : (f : Fates) (x : ℕ) {r : Rule} → Stands p l r → Bars p f x r → (o : List ℕ) → Run p l f o → among x o ≡ true → ⊥
   no-turn f x st b [] run h = among-none x h
   no-turn f x {r} st b (c ∷ o) run h = elim (among-cases x c o h) [
-    | inl q ↦ run .0 .unbarred r st (subst (λ (z : ℕ). Bars f z r) q b)
+    | inl q ↦ run .0 .unbarred r st (subst (λ (z : ℕ). Bars p f z r) q b)
     | inr t ↦ no-turn (doing f c) x st (bars-stay f c (ready-unsettled p f c (run .0 .at-hand)) x b) o (run .1) t
   ]
 

@@ -16,8 +16,8 @@ use Rattle.plan.specs.Base.{among, anyBelow}
 use Rattle.plan.specs.Fates.{Fates, isDone, isSettled}
 use Rattle.plan.specs.Plans.{eventCount, delayable}
 use Rattle.plan.specs.Rules.{ready, bars}
-use Rattle.orders.specs.Closed.{Events, Stands, first, one, both, Closed, target}
-use Rattle.orders.specs.Runs.{doing, late, Waits, waits, Owed, needed, called, May, Run}
+use Rattle.orders.specs.Closed.{Events, Stands, first, one, both, turned, Closed, target}
+use Rattle.orders.specs.Runs.{doing, late, Waits, waits, Owed, needed, called, recalled, May, Run}
 use Rattle.orders.specs.Sequences.{Ahead}
 use Rattle.orders.specs.Stepwise.{follows, blocked, less, nothing, next, stepwise}
 use Rattle.plan.proofs.Tests.{and-left, and-right, or-left, or-right, or-both, or-right-true, or-either, clash, either, any-false, any-none, some-none}
@@ -157,9 +157,10 @@ module _ (p : Plan) (l : ℕ → Bool) where
       empty : (x : ℕ) → m x ≡ true → ⊥
       empty x t = clash t (nothing-none m h x (w .low x t))
 
-      owed-none : (r : Rule) → Stands p l r → Owed f r → ⊥
+      owed-none : (r : Rule) → Stands p l r → Owed p f r → ⊥
       owed-none r st (needed {a = a} {b = b} d u) = empty b (cl r st (one (inr d) u))
       owed-none r st (called {a = a} {b = b} {c = c} d e u) = empty c (cl r st (both (inr d) (inr e) u))
+      owed-none r st (recalled {a = a} {b = b} {c = c} d e u) = empty c (cl r st (turned (inr d) (inr e) u))
 
   -- the next event: of those not blocked the lowest
   pub record Next (f : Fates) (m : Events) (x : ℕ) : Type 0 where

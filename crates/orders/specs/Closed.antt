@@ -3,6 +3,7 @@ use Rattle.orders.specs.Prelude.{ℕ, _≤_, _<_, Bool, true, false, _&&
 use Rattle.plan.specs.Base.{countBelow}
 use Rattle.plan.specs.Fates.{Fates, isDone, isSettled}
 use Rattle.plan.specs.Plans.{ruleCount, ruleAt, delayable}
+use Rattle.plan.specs.Rules.{reckoned}
 
 -- a set of events, as a test
 abbrev pub Events : Type 0
@@ -19,6 +20,10 @@ pub record Stands (p : Plan) (l : ℕ → Bool) (r : Rule) : Type 0 where
 abbrev pub Has : Fates → Events → ℕ → Type 0
 Has f m a = (m a ≡ true) ⊎ (isDone (f a) ≡ true)
 
+-- an event of the set, or one that a conditional which calls for c reckons with
+abbrev pub Reckons : Plan → Fates → Events → ℕ → ℕ → Type 0
+Reckons p f m c b = (m b ≡ true) ⊎ (reckoned p f c b ≡ true)
+
 -- the event that a rule asks for
 abbrev pub target : Rule → ℕ
 target (Order a b) = a
@@ -30,7 +35,8 @@ target (Conditional a b c) = c
 pub data Wants (p : Plan) (f : Fates) (m : Events) : Rule → Type 0 where
   first : {a b : ℕ} → m b ≡ true → delayable p b ≡ true → isSettled (f a) ≡ false → Wants p f m (Order a b)
   one : {a b : ℕ} → Has f m a → isSettled (f b) ≡ false → Wants p f m (Need a b)
-  both : {a b c : ℕ} → Has f m a → Has f m b → isSettled (f c) ≡ false → Wants p f m (Conditional a b c)
+  both : {a b c : ℕ} → Has f m a → Reckons p f m c b → isSettled (f c) ≡ false → Wants p f m (Conditional a b c)
+  turned : {a b c : ℕ} → Has f m b → Reckons p f m c a → isSettled (f c) ≡ false → Wants p f m (Conditional a b c)
 
 -- the set has everything that is asked for (7.10)
 abbrev pub Closed : Plan → (ℕ → Bool) → Fates → Events → Type 0
@@ -40,7 +46,9 @@ Closed p l f m = (r : Rule) → Stands p l r → Wants p f m r → m (target r) 
 unfoldable pub asks : Plan → Fates → Events → Rule → Bool
 asks p f m (Order a b) = m b && delayable p b
 asks p f m (Need a b) = m a || isDone (f a)
-asks p f m (Conditional a b c) = (m a || isDone (f a)) && (m b || isDone (f b))
+asks p f m (Conditional a b c) =
+    ((m a || isDone (f a)) && (m b || reckoned p f c b))
+    || ((m b || isDone (f b)) && (m a || reckoned p f c a))
 
 -- a closed set with e, of at most six events that pass the test `able`
 pub record Fit (p : Plan) (l : ℕ → Bool) (f : Fates) (able : Events) (e : ℕ) (m : Events) : Type 0 where

@@ -13,7 +13,7 @@ use Rattle.plan.specs.Base.{anyBelow, allBelow, countBelow, thoseBelow, 
 use Rattle.plan.specs.Base.{readAt, storeAt}
 use Rattle.plan.specs.Fates.{Fates, isOpen, isHeld, isDone, isGone, isSettled, doneAs, fateNumber}
 use Rattle.plan.specs.Plans.{emptyPlan, hasEvent}
-use Rattle.plan.specs.Rules.{named, enforceable, soundEvent, soundRule, bars, makesWait, forbids, owes, ready}
+use Rattle.plan.specs.Rules.{named, enforceable, soundEvent, soundRule, unstoppable, reckoned, triggered, bars, makesWait, forbids, owes, ready}
 use Rattle.plan.specs.Histories.{fatesIn, anyDone, doneIn, doneInTurn, holds, declaredOnly, sameFates, listedAs}
 use Rattle.plan.specs.Records.{addEvent, addRule}
 
@@ -68,13 +68,31 @@ pub barring :
     × (those (bars eight (λ e. Done) (Order 2 1)) below8 ≡ 2 ∷ [])
     × (those (λ x. bars eight (having (Open ∷ x ∷ [])) (Need 0 1) 0) fates ≡ Refused ∷ Lapsed ∷ [])
     × (those (bars eight (λ e. Lapsed) (Need 2 1)) below8 ≡ 2 ∷ [])
-    × (those (λ x. bars eight (having (Open ∷ Done ∷ x ∷ [])) (Conditional 0 1 2) 0) fates ≡ Refused ∷ Lapsed ∷ [])
-    × (those (λ x. bars eight (having (Done ∷ Held ∷ x ∷ [])) (Conditional 0 1 2) 1) fates ≡ Refused ∷ Lapsed ∷ [])
-    × (those (λ x. bars eight (having (Open ∷ x ∷ Lapsed ∷ [])) (Conditional 0 1 2) 0) fates ≡ Done ∷ Forced ∷ [])
-    × (those (λ x. bars eight (having (x ∷ Open ∷ Refused ∷ [])) (Conditional 0 1 2) 1) fates ≡ Done ∷ Forced ∷ [])
-    × (those (bars eight (having (Done ∷ Done ∷ Refused ∷ [])) (Conditional 0 1 2)) below8 ≡ 0 ∷ 1 ∷ [])
-unfolding bars
+    × (those (λ x. bars eight (having (x ∷ Open ∷ Open ∷ Done ∷ [])) (Conditional 2 3 0) 2) fates ≡ Refused ∷ Lapsed ∷ [])
+    × (those (λ x. bars eight (having (x ∷ Open ∷ Done ∷ Held ∷ [])) (Conditional 2 3 0) 3) fates ≡ Refused ∷ Lapsed ∷ [])
+    × (those (λ x. bars eight (having (Lapsed ∷ Open ∷ Open ∷ x ∷ [])) (Conditional 2 3 0) 2) fates ≡ Done ∷ Forced ∷ [])
+    × (those (λ x. bars eight (having (Refused ∷ Open ∷ x ∷ [])) (Conditional 2 3 0) 3) fates ≡ Done ∷ Forced ∷ [])
+    × (those (bars eight (having (Refused ∷ Open ∷ Done ∷ Done ∷ [])) (Conditional 2 3 0)) below8 ≡ 2 ∷ 3 ∷ [])
+unfolding bars reckoned unstoppable
 barring = (refl, refl, refl, refl, refl, refl, refl, refl, refl)
+
+-- S-6. An event can't be stopped while it is open and has neither the attribute 2 nor 4. While such a trigger is open a
+-- conditional bars the other one too, once its third event is refused or lapsed, if that can't be forced; which of the
+-- first two it is makes no difference
+pub stopping :
+    (those (unstoppable eight (λ e. Open)) below8 ≡ 0 ∷ 1 ∷ [])
+    × (those (λ x. unstoppable eight (λ e. x) 1) fates ≡ Open ∷ [])
+    × (those (reckoned eight (λ e. Open) 6) below8 ≡ 0 ∷ 1 ∷ [])
+    × (those (λ c. reckoned eight (λ e. Open) c 0) below8 ≡ 0 ∷ 2 ∷ 4 ∷ 6 ∷ [])
+    × (those (λ x. reckoned eight (λ e. x) 7 0) fates ≡ Done ∷ Forced ∷ [])
+    × (those (λ x. bars eight (having (x ∷ Open ∷ Lapsed ∷ [])) (Conditional 6 0 2) 6) fates ≡ Open ∷ Done ∷ Forced ∷ [])
+    × (those (λ x. bars eight (having (x ∷ Open ∷ Lapsed ∷ [])) (Conditional 0 6 2) 6) fates ≡ Open ∷ Done ∷ Forced ∷ [])
+    × (those (λ x. bars eight (having (Open ∷ Open ∷ x ∷ [])) (Conditional 6 0 2) 6) fates ≡ Refused ∷ Lapsed ∷ [])
+    × (those (λ t. bars eight (having (Open ∷ Open ∷ Lapsed ∷ [])) (Conditional 6 t 2) 6) below8 ≡ 0 ∷ 1 ∷ [])
+    × (those (λ c. bars eight (having (Open ∷ Open ∷ Lapsed ∷ Lapsed ∷ [])) (Conditional 6 0 c) 6) below8 ≡ 2 ∷ [])
+    × (those (bars eight (having (Open ∷ Open ∷ Lapsed ∷ [])) (Conditional 6 0 2)) below8 ≡ 6 ∷ [])
+unfolding bars reckoned unstoppable
+stopping = (refl, refl, refl, refl, refl, refl, refl, refl, refl, refl, refl)
 
 -- an order's second event waits if it is delayable, while the first is open or held; nothing else waits
 pub waiting :
@@ -93,11 +111,24 @@ pub owing :
     (those (λ x. owes eight (having (Done ∷ x ∷ [])) (Order 0 1)) fates ≡ [])
     × (those (λ x. owes eight (having (Done ∷ x ∷ [])) (Need 0 1)) fates ≡ Open ∷ Held ∷ [])
     × (those (λ x. owes eight (having (x ∷ [])) (Need 0 1)) fates ≡ Done ∷ Forced ∷ [])
-    × (those (λ x. owes eight (having (Done ∷ Done ∷ x ∷ [])) (Conditional 0 1 2)) fates ≡ Open ∷ Held ∷ [])
-    × (those (λ x. owes eight (having (x ∷ Done ∷ [])) (Conditional 0 1 2)) fates ≡ Done ∷ Forced ∷ [])
-    × (those (λ x. owes eight (having (Done ∷ x ∷ [])) (Conditional 0 1 2)) fates ≡ Done ∷ Forced ∷ [])
-unfolding owes
+    × (those (λ x. owes eight (having (x ∷ Open ∷ Done ∷ Done ∷ [])) (Conditional 2 3 0)) fates ≡ Open ∷ Held ∷ [])
+    × (those (λ x. owes eight (having (Open ∷ Open ∷ x ∷ Done ∷ [])) (Conditional 2 3 0)) fates ≡ Done ∷ Forced ∷ [])
+    × (those (λ x. owes eight (having (Open ∷ Open ∷ Done ∷ x ∷ [])) (Conditional 2 3 0)) fates ≡ Done ∷ Forced ∷ [])
+unfolding owes triggered reckoned unstoppable
 owing = (refl, refl, refl, refl, refl, refl)
+
+-- S-6. A conditional owes also while one of its first two events is done and the other open, if nothing can stop that
+-- one, the third is open or held, and can't be forced
+pub awaiting :
+    (those (λ x. owes eight (having (x ∷ Open ∷ Done ∷ [])) (Conditional 2 0 4)) fates ≡ Open ∷ Done ∷ Forced ∷ [])
+    × (those (λ x. owes eight (having (x ∷ Open ∷ Done ∷ [])) (Conditional 0 2 4)) fates ≡ Open ∷ Done ∷ Forced ∷ [])
+    × (those (λ x. owes eight (having (Open ∷ Open ∷ x ∷ [])) (Conditional 2 0 4)) fates ≡ Done ∷ Forced ∷ [])
+    × (those (λ x. owes eight (having (Open ∷ Open ∷ Done ∷ Open ∷ x ∷ [])) (Conditional 2 0 4)) fates ≡ Open ∷ Held ∷ [])
+    × (those (λ t. owes eight (having (Open ∷ Open ∷ Done ∷ [])) (Conditional 2 t 4)) below8 ≡ 0 ∷ 1 ∷ 2 ∷ [])
+    × (those (λ c. owes eight (having (Open ∷ Open ∷ Done ∷ [])) (Conditional 2 1 c)) below8 ≡ 0 ∷ 4 ∷ 6 ∷ [])
+    × (owes eight (λ e. Open) (Conditional 0 1 4) ≡ false)
+unfolding owes triggered reckoned unstoppable
+awaiting = (refl, refl, refl, refl, refl, refl, refl)
 
 -- an event is ready if it is held, or open and forcible, as those of odd attributes are; settled ones are not
 pub readied :

@@ -33,14 +33,28 @@ soundEvent p e = not (badStep (stepOf p e)) && not (badAttributes (attributesOf 
 unfoldable pub soundRule : Plan → ℕ → Bool
 soundRule p i = named (eventCount p) (ruleAt p i) && enforceable p (ruleAt p i)
 
+-- t may still come, and can then neither be refused nor wait (6.9)
+unfoldable pub unstoppable : Plan → Fates → ℕ → Bool
+unstoppable p f t = isOpen (f t) && not (rejectable p t) && not (delayable p t)
+
+-- to a conditional that calls for c its trigger t is as good as done: it is; or nothing can stop it, and c could not be
+-- forced when it comes (6.9)
+unfoldable pub reckoned : Plan → Fates → ℕ → ℕ → Bool
+reckoned p f c t = isDone (f t) || (unstoppable p f t && not (forcible p c))
+
+-- one of a and b is done, and the other reckoned with (6.7, 6.10)
+unfoldable pub triggered : Plan → Fates → ℕ → ℕ → ℕ → Bool
+triggered p f c a b = (isDone (f a) && reckoned p f c b) || (isDone (f b) && reckoned p f c a)
+
 -- doing e would break the rule for good: an order, where its b is done before it; a need, where its b can no more be
--- done; a conditional, where e is the last of its triggers and c can no more be done (6.2, 6.6)
+-- done; a conditional, where e is one of its triggers, the other is reckoned with and c can no more be done (6.2, 6.6,
+-- 6.11)
 unfoldable pub bars : Plan → Fates → Rule → ℕ → Bool
 bars p f (Order a b) e = eqb e a && isDone (f b)
 bars p f (Need a b) e = eqb e a && isGone (f b)
 bars p f (Conditional a b c) e =
     isGone (f c)
-    && ((eqb e a && isDone (f b)) || (eqb e b && isDone (f a)))
+    && ((eqb e a && reckoned p f c b) || (eqb e b && reckoned p f c a))
 
 -- e has to wait for now: it is the b of an order and may wait, and the a may still come (6.2, 6.5)
 unfoldable pub makesWait : Plan → Fates → Rule → ℕ → Bool
@@ -52,11 +66,11 @@ unfoldable pub forbids : Plan → Fates → Rule → ℕ → Bool
 forbids p f r e = bars p f r e || makesWait p f r e
 
 -- what is done so far asks for one event more, which is still possible: a need for its b, a conditional for its c
--- (6.3, 6.7)
+-- (6.3, 6.7, 6.10)
 unfoldable pub owes : Plan → Fates → Rule → Bool
 owes p f (Order a b) = false
 owes p f (Need a b) = isDone (f a) && not (isSettled (f b))
-owes p f (Conditional a b c) = isDone (f a) && isDone (f b) && not (isSettled (f c))
+owes p f (Conditional a b c) = triggered p f c a b && not (isSettled (f c))
 
 -- the scheduler has the event at its disposal: it waits, or can be brought about (7.2)
 unfoldable pub ready : Plan → Fates → ℕ → Bool

@@ -10,7 +10,7 @@ use Rattle.scheduler.specs.Prelude.{Fate, Held, Done, Refused, Lapsed, F
 use Rattle.plan.specs.Base.{anyBelow, allBelow, countBelow, firstOf, tabulate, lowest}
 use Rattle.plan.specs.Plans.{ruleCount, emptyPlan, hasEvent}
 use Rattle.scheduler.specs.State.{firstState, emptyState, lines, hold, settleAs, shut, breakRule}
-use Rattle.plan.specs.Rules.{named, enforceable, soundEvent, soundRule, bars, makesWait, forbids, owes, ready}
+use Rattle.plan.specs.Rules.{named, enforceable, soundEvent, soundRule, unstoppable, reckoned, triggered, bars, makesWait, forbids, owes, ready}
 use Rattle.scheduler.specs.Rules.{barred, forbidden, owing, strains}
 use Rattle.plan.specs.Histories.{listedAs, fatesIn, anyDone, doneIn, doneInTurn, holds, declaredOnly, sameFates}
 use Rattle.scheduler.specs.Orders.{mayDo, doAll, orderOf, chosen}
@@ -67,6 +67,13 @@ sheetG = 1 ∷ 0 ∷ 6 ∷ 1 ∷ 0 ∷ 0 ∷ 2 ∷ 0 ∷ 1 ∷ 5 ∷ []
 
 abbrev pub sheetL : List ℕ
 sheetL = 1 ∷ 0 ∷ 6 ∷ 1 ∷ 1 ∷ 6 ∷ 1 ∷ 2 ∷ 6 ∷ 4 ∷ 0 ∷ 1 ∷ 2 ∷ 5 ∷ []
+
+-- S-6: a trigger that nothing can stop is 1, the other 0, and what they call for 2; and the same with 1 named first
+abbrev pub sheetW : List ℕ
+sheetW = 1 ∷ 0 ∷ 6 ∷ 1 ∷ 1 ∷ 0 ∷ 1 ∷ 2 ∷ 6 ∷ 4 ∷ 0 ∷ 1 ∷ 2 ∷ 5 ∷ []
+
+abbrev pub sheetV : List ℕ
+sheetV = 1 ∷ 0 ∷ 6 ∷ 1 ∷ 1 ∷ 0 ∷ 1 ∷ 2 ∷ 6 ∷ 4 ∷ 1 ∷ 0 ∷ 2 ∷ 5 ∷ []
 
 -- orders 0, 1 up to n - 1, n
 abbrev pub links : ℕ → List ℕ
@@ -198,7 +205,76 @@ cases =
       Submit 2 ∷ Submit 0 ∷ [],
       ran (Is Done ∷ Is Refused ∷ []) ((1, Forced) ∷ (2, Done) ∷ (0, Refused) ∷ []) (false ∷ false ∷ []),
     )
-    -- a conditional of which a alone is rejectable: a is refused and not done alone, b is done alone
+    -- S-6, the consent form: 0 waits for it while 1 may come. It lapses: 0 is refused, and 1 breaks no rule
+    ∷ (
+      sheetW,
+      Submit 0 ∷ Close 2 ∷ Submit 1 ∷ [],
+      ran (Is Held ∷ Made ∷ Is Done ∷ []) ((2, Lapsed) ∷ (0, Refused) ∷ (1, Done) ∷ []) (false ∷ []),
+    )
+    ∷ (
+      sheetV,
+      Submit 0 ∷ Close 2 ∷ Submit 1 ∷ [],
+      ran (Is Held ∷ Made ∷ Is Done ∷ []) ((2, Lapsed) ∷ (0, Refused) ∷ (1, Done) ∷ []) (false ∷ []),
+    )
+    -- it is handed in: 0 is done with it
+    ∷ (
+      sheetW,
+      Submit 0 ∷ Submit 2 ∷ Submit 1 ∷ [],
+      ran (Is Held ∷ Is Done ∷ Is Done ∷ []) ((0, Done) ∷ (2, Done) ∷ (1, Done) ∷ []) (false ∷ []),
+    )
+    ∷ (
+      sheetV,
+      Submit 0 ∷ Submit 2 ∷ Submit 1 ∷ [],
+      ran (Is Held ∷ Is Done ∷ Is Done ∷ []) ((0, Done) ∷ (2, Done) ∷ (1, Done) ∷ []) (false ∷ []),
+    )
+    -- it is forcible: nothing waits
+    ∷ (
+      1 ∷ 0 ∷ 6 ∷ 1 ∷ 1 ∷ 0 ∷ 1 ∷ 2 ∷ 7 ∷ 4 ∷ 0 ∷ 1 ∷ 2 ∷ 5 ∷ [],
+      Submit 0 ∷ Submit 1 ∷ [],
+      ran (Is Done ∷ Is Done ∷ []) ((0, Done) ∷ (1, Done) ∷ (2, Forced) ∷ []) (false ∷ []),
+    )
+    -- 1 is rejectable: nothing waits, and 1 is refused
+    ∷ (
+      1 ∷ 0 ∷ 6 ∷ 1 ∷ 1 ∷ 2 ∷ 1 ∷ 2 ∷ 6 ∷ 4 ∷ 0 ∷ 1 ∷ 2 ∷ 5 ∷ [],
+      Submit 0 ∷ Close 2 ∷ Submit 1 ∷ [],
+      ran (Is Done ∷ Made ∷ Is Refused ∷ []) ((0, Done) ∷ (2, Lapsed) ∷ (1, Refused) ∷ []) (false ∷ []),
+    )
+    -- 1 lapsed first: nothing waits
+    ∷ (
+      sheetW,
+      Close 1 ∷ Submit 0 ∷ Close 2 ∷ [],
+      ran (Made ∷ Is Done ∷ Made ∷ []) ((1, Lapsed) ∷ (0, Done) ∷ (2, Lapsed) ∷ []) (false ∷ []),
+    )
+    -- 1 was done first: 0 is the second of the two
+    ∷ (
+      sheetW,
+      Submit 1 ∷ Submit 0 ∷ Close 2 ∷ [],
+      ran (Is Done ∷ Is Held ∷ Made ∷ []) ((1, Done) ∷ (2, Lapsed) ∷ (0, Refused) ∷ []) (false ∷ []),
+    )
+    -- the steps of both are closed: nothing waits
+    ∷ (
+      sheetW,
+      Close 2 ∷ Close 1 ∷ Submit 0 ∷ [],
+      ran (Made ∷ Made ∷ Is Done ∷ []) ((2, Lapsed) ∷ (1, Lapsed) ∷ (0, Done) ∷ []) (false ∷ []),
+    )
+    -- the wait ends when 1 lapses; but where the consent form went first, 0 is refused before that
+    ∷ (
+      sheetV,
+      Submit 0 ∷ Close 1 ∷ [],
+      ran (Is Held ∷ Made ∷ []) ((1, Lapsed) ∷ (0, Done) ∷ []) (false ∷ []),
+    )
+    ∷ (
+      sheetW,
+      Submit 0 ∷ Close 2 ∷ Close 1 ∷ [],
+      ran (Is Held ∷ Made ∷ Made ∷ []) ((2, Lapsed) ∷ (0, Refused) ∷ (1, Lapsed) ∷ []) (false ∷ []),
+    )
+    -- with the consent form done 0 need not wait: it goes before 1, which is forced for 3 (needs 3, 1 and 0, 3)
+    ∷ (
+      1 ∷ 0 ∷ 6 ∷ 1 ∷ 1 ∷ 1 ∷ 1 ∷ 2 ∷ 6 ∷ 1 ∷ 3 ∷ 6 ∷ 4 ∷ 0 ∷ 1 ∷ 2 ∷ 3 ∷ 3 ∷ 1 ∷ 3 ∷ 0 ∷ 3 ∷ 5 ∷ [],
+      Submit 2 ∷ Submit 0 ∷ Submit 3 ∷ [],
+      ran (Is Done ∷ Is Held ∷ Is Done ∷ []) ((2, Done) ∷ (0, Done) ∷ (1, Forced) ∷ (3, Done) ∷ []) (replicate 3 false),
+    )
+    -- a conditional of which a alone is rejectable: a is refused and not done alone, after b or before it
     ∷ (
       1 ∷ 0 ∷ 2 ∷ 1 ∷ 0 ∷ 0 ∷ 1 ∷ 1 ∷ 6 ∷ 4 ∷ 0 ∷ 1 ∷ 2 ∷ 5 ∷ [],
       Submit 1 ∷ Close 1 ∷ Submit 0 ∷ [],
@@ -207,7 +283,7 @@ cases =
     ∷ (
       1 ∷ 0 ∷ 2 ∷ 1 ∷ 0 ∷ 0 ∷ 1 ∷ 1 ∷ 6 ∷ 4 ∷ 0 ∷ 1 ∷ 2 ∷ 5 ∷ [],
       Submit 0 ∷ Close 1 ∷ Submit 1 ∷ [],
-      ran (Is Done ∷ Made ∷ Is Done ∷ []) ((0, Done) ∷ (2, Lapsed) ∷ (1, Done) ∷ []) (true ∷ []),
+      ran (Is Refused ∷ Made ∷ Is Done ∷ []) ((0, Refused) ∷ (2, Lapsed) ∷ (1, Done) ∷ []) (false ∷ []),
     )
     -- settling after a refused hand-in: 1 waited for 0
     ∷ (
@@ -342,6 +418,14 @@ brought =
     ∷ (settleAs Refused (settleAs Done (firstOn sheetD) 0) 1, Finish ∷ [], TurnedDown Incoherent ∷ [])
     ∷ (doAll (settleAs Refused (firstOn sheetL) 2) (0 ∷ 1 ∷ []), Finish ∷ [], TurnedDown Incoherent ∷ [])
     ∷ (breakRule (doAll (settleAs Refused (firstOn sheetL) 2) (0 ∷ 1 ∷ [])) 0, Finish ∷ [], TurnedDown NotClosed ∷ [])
+    -- S-6: 0 is done while 1 may come. 12 where 2 is open or held, unless the rule is recorded or 1 has lapsed; where 2
+    -- is done nothing is owed, and where it is refused the rule is broken when 1 comes
+    ∷ (settleAs Done (firstOn sheetW) 0, Submit 1 ∷ [], TurnedDown Incoherent ∷ [])
+    ∷ (hold (settleAs Done (firstOn sheetV) 0) 2, Submit 1 ∷ [], TurnedDown Incoherent ∷ [])
+    ∷ (breakRule (settleAs Done (firstOn sheetW) 0) 0, Submit 1 ∷ [], Is Done ∷ [])
+    ∷ (settleAs Lapsed (settleAs Done (firstOn sheetW) 0) 1, Submit 2 ∷ [], Is Done ∷ [])
+    ∷ (doAll (firstOn sheetW) (2 ∷ 0 ∷ []), Submit 1 ∷ [], Is Done ∷ [])
+    ∷ (settleAs Refused (settleAs Done (firstOn sheetW) 0) 2, Submit 1 ∷ Finish ∷ [], Is Done ∷ TurnedDown NotClosed ∷ [])
     -- a closed step without events, and a mark past the rules, are not looked at
     ∷ (breakRule (shut (firstOn sheetD) 7) 15, Submit 0 ∷ [], Is Done ∷ [])
     -- 12 goes before 9, 10 and 11
@@ -424,7 +508,7 @@ pub marked :
     × (map (λ (c : Brought). answersOf (c .0) (c .1)) brought ≡ map (λ (c : Brought). c .2) brought)
     × (map (λ (c : Report). report (runOf (c .0) (c .1))) reports ≡ map (λ (c : Report). c .2) reports)
 unfolding given answersOf tabulate anyBelow allBelow firstOf lowest hold settleAs shut breakRule named enforceable
-    soundEvent soundRule bars makesWait forbids owes barred forbidden owing fatesIn anyDone doneIn doneInTurn holds
+    soundEvent soundRule unstoppable reckoned triggered bars makesWait forbids owes barred forbidden owing fatesIn anyDone doneIn doneInTurn holds
     ready mayDo doAll orderOf chosen toRefuse toDo settleOnce settleUpTo settle strains recordBroken doAlone decide
     submit lapse closeStep refuseHeld finish firstFault declaredOnly sameFates listedAs coherentEvent coherentRule
     coherent hasEvent callFault accept call ruleOf addEvent addRule addEvents declare recordFault ending readFrom

@@ -3,7 +3,7 @@
 use Rattle.scheduler.specs.Prelude.{ℕ, _≤_, _<_, Bool, true, false, not, _&&_, _||_, List, [], _∷_, _++_, _≡_, eqb, ltb, length, getD, drop, Fate, Open, Held, Rule, Order, Need, Conditional, Plan, Entry, State, Call, Submit, Close, Finish}
 use Rattle.plan.specs.Base.{allBelow, thoseBelow, among, tabulate}
 use Rattle.plan.specs.Fates.{isOpen, isDone, isSettled}
-use Rattle.plan.specs.Plans.{eventCount, ruleCount, ruleAt, rejectable, hasEvent}
+use Rattle.plan.specs.Plans.{eventCount, ruleCount, ruleAt, forcible, rejectable, hasEvent}
 use Rattle.plan.specs.Histories.{blankEntry, fatesIn, holds}
 use Rattle.scheduler.specs.State.{lines, hold}
 use Rattle.scheduler.specs.Rules.{strains}
@@ -129,17 +129,18 @@ observeAll p o (x ∷ xs) = observeAll p (observe p o (x .0) (x .1)) xs
 unfoldable pub broken : Plan → Observed → ℕ → Bool
 broken p o i = among i (o .recorded) || not (holds (o .history) (ruleAt p i))
 
--- a rule that must never be broken: an order, or one whose triggers can all be refused (11.10)
+-- a rule that must never be broken: an order, one whose triggers can all be refused, or a conditional whose c cannot be
+-- forced (11.10)
 unfoldable pub unbreakable : Plan → Rule → Bool
 unbreakable p (Order a b) = true
 unbreakable p (Need a b) = rejectable p a
-unbreakable p (Conditional a b c) = rejectable p a && rejectable p b
+unbreakable p (Conditional a b c) = (rejectable p a && rejectable p b) || not (forcible p c)
 
 -- what has to hold of what was observed, and of the state after the list (11.11)
 pub record Holds (p : Plan) (o : Observed) (end : State) : Type 0 where
   -- no event twice in the history
   pub once : (e : ℕ) → length (fatesIn (o .history) e) ≤ 1
-  -- no order rule broken, nor any rule whose triggers are all rejectable
+  -- no order rule broken, nor any rule whose triggers are all rejectable, nor a conditional whose c is not forcible
   pub kept : (i : ℕ) → i < ruleCount p → unbreakable p (ruleAt p i) ≡ true → broken p o i ≡ false
   -- a rule that is not recorded holds of the history
   pub holding : (i : ℕ) → i < ruleCount p → among i (o .recorded) ≡ false → holds (o .history) (ruleAt p i) ≡ true

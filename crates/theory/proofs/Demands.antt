@@ -17,7 +17,7 @@ use Rattle.plan.specs.Plans.{eventCount, ruleCount, stepOf, ruleAt, hasEvent}
 use Rattle.scheduler.specs.State.{firstState, fateOf, brokenAt, closedAt, lines, hold, shut, settleAs, Sized}
 use Rattle.plan.specs.Fates.{blankStanding, isOpen, isHeld, isDone, isSettled}
 use Rattle.plan.specs.Histories.{blankEntry, fateIf, fatesIn, doneInTurn, holds, declaredOnly}
-use Rattle.plan.specs.Rules.{owes}
+use Rattle.plan.specs.Rules.{triggered, owes}
 use Rattle.scheduler.specs.Orders.{Viable, hasViable}
 use Rattle.scheduler.specs.Rules.{strains}
 use Rattle.scheduler.specs.Calls.{doAlone, submit, closeStep, finish}
@@ -36,7 +36,7 @@ use Rattle.scheduler.proofs.Branches.{submit-same, call-fault, call-accept}
 use Rattle.theory.proofs.SoundPlans.{Sound, step-low}
 use Rattle.theory.proofs.SheetPlans.{sheet-first, sheet-sound}
 use Rattle.theory.proofs.HistoryInvariant.{Shape, HistoryListed, BlankBeyond, same-events, shape-hold, beyond-hold}
-use Rattle.theory.proofs.RuleInvariant.{Strict, strict-same, unpaid}
+use Rattle.theory.proofs.RuleInvariant.{SameToRules, Strict, strict-same, covered-same, unpaid}
 use Rattle.theory.proofs.Invariant.{FatesLater, Invariant, Resting, rules-shut, beyond-shut, close-keeps, finish-keeps}
 use Rattle.theory.proofs.Submission.{rules-hold, Recorded, alone-recorded, Manner, ordered, waited, alone, Submitted, submit-keeps}
 use Rattle.theory.proofs.InvariantCoherent.{rule-holds, invariant-coherent}
@@ -89,10 +89,10 @@ module _ (p : Plan) (sd : Sound p) where
   first-unpaid (Conditional a b c) = rw (none-done a)
 
   first-owes : (r : Rule) → owes ((firstState p) .plan) (fateOf (firstState p)) r ≡ false
-  unfolding owes
+  unfolding owes triggered
   first-owes (Order a b) = refl
   first-owes (Need a b) = rw (none-done a)
-  first-owes (Conditional a b c) = rw (none-done a)
+  first-owes (Conditional a b c) = rw (none-done a, none-done b)
 
   first-invariant : Invariant p (firstState p)
   unfolding doneInTurn
@@ -111,6 +111,7 @@ module _ (p : Plan) (sd : Sound p) where
     beyond = record { unused = λ e ge. all-open p e; blank = λ i ge. get-blank 16 blankEntry i };
     strict = record {
       first = λ i a b l r d h. absurd (clash h (none-done b));
+      spared = λ o t c v h d. absurd (clash d (none-done o));
       weak = λ i l n. absurd (clash n (unbroken i));
     };
     rest = λ e q h v. clash (ap isHeld h) (ap isHeld (all-open p e));
@@ -328,6 +329,9 @@ module _ {p : Plan} {o : Observed} {s : State} (sd : Sound p) (k : ListInvariant
     z : Submitted p (hold s e) (submit s e) e
     z = submit-keeps sd (k .invariant) e lt q
 
+    held : SameToRules s (hold s e)
+    held = rules-hold e (k .invariant .listing) lt (open-is (fateOf s e) q)
+
     lines-after : lines (submit s e) ≡ lines s ++ z .new
     lines-after = z .lines-new ∙ ap (λ h. h ++ z .new) (lines-hold s e)
 
@@ -401,7 +405,7 @@ module _ {p : Plan} {o : Observed} {s : State} (sd : Sound p) (k : ListInvariant
       at = record {
         invariant = z .invariant;
         beyond = z .beyond (beyond-hold e (k .invariant .listing) lt (open-is (fateOf s e) q) (k .beyond));
-        strict = z .strict (strict-same (rules-hold e (k .invariant .listing) lt (open-is (fateOf s e) q)) (k .strict));
+        strict = z .strict (strict-same held (k .strict)) (covered-same sh (k .invariant .quiet) (k .strict) held e q);
         rest = z .rest;
         agrees = record {
           history = refl;

@@ -87,7 +87,7 @@ all-unopened s [] e z h = h
 all-unopened s (c ∷ o) e z h = all-unopened (doOne s c) o e (sized-one s c z) (one-unopened s c e z h)
 
 -- along a trail no event becomes open
-trail-unopened : {c : Call} {s t : State} → Trail c s t → Sized s → (e : ℕ) → isOpen (fateOf s e) ≡ false → isOpen (fateOf t e) ≡ false
+pub trail-unopened : {c : Call} {s t : State} → Trail c s t → Sized s → (e : ℕ) → isOpen (fateOf s e) ≡ false → isOpen (fateOf t e) ≡ false
 trail-unopened end z e h = h
 trail-unopened (held {s} d p o r) z e h =
     trail-unopened r (sized-hold s d z) e (elim (hold-either s d e z) [ inl q ↦ ap isOpen q | inr q ↦ ap isOpen q ∙ h ])

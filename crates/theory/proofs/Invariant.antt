@@ -156,8 +156,9 @@ pub later-drop : {p : Plan} {s : State} (x : Fate) (gx : isGone x ≡ true) (e :
     → HistoryListed p s
     → e < eventCount p
     → isSettled (fateOf s e) ≡ false
+    → Quiet p s
     → Later p s (settleAs x s e)
-later-drop x gx e k lt un = later-settle x e (gone-settled x gx) k lt un (strict-drop x gx e k lt un)
+later-drop x gx e k lt un qt = later-settle x e (gone-settled x gx) k lt un (strict-drop x gx e k lt un qt)
 
 pub refused-keeps : {p : Plan} {s : State}
     → Invariant p s
@@ -167,7 +168,7 @@ pub refused-keeps : {p : Plan} {s : State}
     → InvariantKept p s (settleAs Refused s e)
 refused-keeps {p} {s} k e lt h =
     let un = held-unsettled h in
-    let l = later-drop Refused refl e (k .listing) lt un in
+    let l = later-drop Refused refl e (k .listing) lt un (k .quiet) in
     record {
       invariant = record {
         listing = listing-settle Refused e refl (k .listing) lt un;
@@ -272,7 +273,7 @@ lapse-keeps {p} (suc n) e s k b w q le = elim (either (isOpen (fateOf s e) && eq
         listing = z .listing;
         obeyed = z .obeyed;
         quiet = z .quiet;
-        later = later-trans (later-drop Lapsed refl e b lt un) (z .later);
+        later = later-trans (later-drop Lapsed refl e b lt un q) (z .later);
         gone = λ j lo hi st o. elim (ℕ-discrete j e) [
           | yes r ↦
               not-open (z .later) e (λ v. clash (ap isSettled (fate-then Lapsed e refl b lt un)) (open-unsettled v))
@@ -300,6 +301,8 @@ lapse-keeps {p} (suc n) e s k b w q le = elim (either (isOpen (fateOf s e) && eq
 -- closing a step changes nothing that the history and the rules read
 pub rules-shut : (s : State) (k : ℕ) → SameToRules s (shut s k)
 rules-shut s k = record {
+  same-plan = plan-shut s k;
+  opens = λ j h. sym (ap isOpen (fate-shut s k j)) ∙ h;
   done = λ j. ap isDone (fate-shut s k j);
   gone = λ j. ap isGone (fate-shut s k j);
   recorded = broken-shut s k;

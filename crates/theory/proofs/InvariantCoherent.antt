@@ -11,10 +11,12 @@ use Rattle.scheduler.specs.State.{fateOf, brokenAt, closedAt, lineCount, lines}
 use Rattle.plan.specs.Fates.{fateNumber, sameFate, isOpen, isHeld, isDone, isGone, isSettled}
 use Rattle.plan.specs.Rules.{soundRule, owes}
 use Rattle.plan.specs.Histories.{fateIf, holds, sameFates, listedAs}
+use Rattle.theory.specs.Waiting.{plainOwes}
 use Rattle.scheduler.specs.Coherent.{coherentEvent, coherentRule, coherent}
 use Rattle.plan.proofs.Tests.{clash, either, and-both, all-of}
 use Rattle.theory.proofs.SoundPlans.{Sound}
 use Rattle.theory.proofs.HistoryInvariant.{len-le}
+use Rattle.theory.proofs.Waits.{owes-plain}
 use Rattle.theory.proofs.RuleInvariant.{unpaid, done-listed, need-named, conditional-named}
 use Rattle.plan.proofs.Fates.{held-is, open-is}
 use Rattle.theory.proofs.Invariant.{Invariant}
@@ -39,12 +41,12 @@ module _ {p : Plan} {s : State} (sd : Sound p) (k : Invariant p s) (i : ℕ) (l 
       → owes (s .plan) (fateOf s) r ≡ false
       → unpaid s r ≡ false
       → holds (lines s) r ≡ true
-  unfolding holds owes unpaid
+  unfolding holds plainOwes unpaid
   holds-as (Order a c) r o u = rw (k .obeyed .turn i a c l b r)
   holds-as (Need a c) r o u =
       let n = need-named sd i a c l r in
       rw (done-listed (k .listing) a (n .0), done-listed (k .listing) c (n .1))
-      (settled-paid (isDone (fateOf s a)) (isDone (fateOf s c)) (isGone (fateOf s c)) o u)
+      (settled-paid (isDone (fateOf s a)) (isDone (fateOf s c)) (isGone (fateOf s c)) (owes-plain (s .plan) (fateOf s) (Need a c) o) u)
   holds-as (Conditional a c d) r o u =
       let n = conditional-named sd i a c d l r in
       rw (
@@ -52,7 +54,8 @@ module _ {p : Plan} {s : State} (sd : Sound p) (k : Invariant p s) (i : ℕ) (l 
         done-listed (k .listing) c (n .second),
         done-listed (k .listing) d (n .third),
       )
-      (settled-paid (isDone (fateOf s a) && isDone (fateOf s c)) (isDone (fateOf s d)) (isGone (fateOf s d)) o u)
+      (settled-paid (isDone (fateOf s a) && isDone (fateOf s c)) (isDone (fateOf s d)) (isGone (fateOf s d))
+      (owes-plain (s .plan) (fateOf s) (Conditional a c d) o) u)
 
   -- a rule that is not recorded as broken holds
   pub rule-holds : holds (lines s) (ruleAt p i) ≡ true

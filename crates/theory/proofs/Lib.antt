@@ -4,6 +4,7 @@ pub mod Conjunctions
 pub mod SoundPlans
 pub mod SheetPlans
 pub mod HistoryInvariant
+pub mod Waits
 pub mod RuleInvariant
 pub mod Invariant
 pub mod Submission
@@ -15,4 +16,5 @@ pub mod Demands
 pub mod Marks
 pub mod MarkedCalls
 pub mod Forcing
+pub mod Waiting
 pub mod Worthless

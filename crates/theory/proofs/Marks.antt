@@ -11,7 +11,7 @@ use Rattle.plan.specs.declared.fate.Standing.{Standing}
 use Rattle.plan.specs.Base.{anyBelow, when, firstOf, lowest, readAt, storeAt}
 use Rattle.plan.specs.Fates.{Fates, isOpen, isHeld, isDone, isGone, blankStanding}
 use Rattle.plan.specs.Plans.{eventCount, ruleCount, ruleAt, stepOf, rejectable, delayable}
-use Rattle.plan.specs.Rules.{bars, makesWait, forbids, owes, ready}
+use Rattle.plan.specs.Rules.{unstoppable, reckoned, triggered, bars, makesWait, forbids, owes, ready}
 use Rattle.scheduler.specs.State.{fateOf, lineCount, hold, settleAs, shut, breakRule}
 use Rattle.scheduler.specs.Rules.{stands, barred, forbidden, owing, strains}
 use Rattle.scheduler.specs.Orders.{mayDo, fateAtTurn, doOne, doAll, orderOf, chosen}
@@ -62,11 +62,15 @@ same-kind x y h =
 
 -- rules see no marks
 module _ (p : Plan) (f g : Fates) (k : (e : ℕ) → SameKind (f e) (g e)) where
+  reckoned-kind : (c t : ℕ) → reckoned p f c t ≡ reckoned p g c t
+  unfolding reckoned unstoppable
+  reckoned-kind c t = rw (k t .is-done, k t .is-open)
+
   pub bars-kind : (r : Rule) (e : ℕ) → bars p f r e ≡ bars p g r e
   unfolding bars
   bars-kind (Order a b) e = rw (k b .is-done)
   bars-kind (Need a b) e = rw (k b .is-gone)
-  bars-kind (Conditional a b c) e = rw (k a .is-done, k b .is-done, k c .is-gone)
+  bars-kind (Conditional a b c) e = rw (reckoned-kind c a, reckoned-kind c b, k c .is-gone)
 
   waits-kind : (r : Rule) (e : ℕ) → makesWait p f r e ≡ makesWait p g r e
   unfolding makesWait
@@ -79,10 +83,11 @@ module _ (p : Plan) (f g : Fates) (k : (e : ℕ) → SameKind (f e) (g e)) where
   forbids-kind r e = ap₂ (λ a b. a || b) (bars-kind r e) (waits-kind r e)
 
   pub owes-kind : (r : Rule) → owes p f r ≡ owes p g r
-  unfolding owes
+  unfolding owes triggered
   owes-kind (Order a b) = refl
   owes-kind (Need a b) = rw (k a .is-done, k b .is-done, k b .is-gone)
-  owes-kind (Conditional a b c) = rw (k a .is-done, k b .is-done, k c .is-done, k c .is-gone)
+  owes-kind (Conditional a b c) =
+      rw (k a .is-done, k b .is-done, reckoned-kind c a, reckoned-kind c b, k c .is-done, k c .is-gone)
 
   pub ready-kind : (e : ℕ) → ready p f e ≡ ready p g e
   unfolding ready

@@ -11,21 +11,23 @@ use mathlib.Core.Path.{_≡_, refl, sym, _∙_, ap}
 use lib.Dec.{eqb}
 use Rattle.theory.proofs.Types.{Fate, Open, Held, Done, Refused, Lapsed, Forced, Rule, Order, Need, Conditional, Plan, Entry, State}
 use Rattle.plan.specs.Base.{anyBelow}
-use Rattle.plan.specs.Plans.{eventCount, ruleCount, ruleAt, delayable}
+use Rattle.plan.specs.Plans.{eventCount, ruleCount, ruleAt, forcible, rejectable, delayable}
 use Rattle.scheduler.specs.State.{fateOf, brokenAt, lines, settleAs}
-use Rattle.plan.specs.Fates.{isDone, isGone, isSettled}
-use Rattle.plan.specs.Rules.{named, bars, makesWait, forbids, owes, ready}
+use Rattle.plan.specs.Fates.{Fates, isOpen, isDone, isGone, isSettled}
+use Rattle.plan.specs.Rules.{named, unstoppable, reckoned, triggered, bars, makesWait, forbids, owes, ready}
 use Rattle.plan.specs.Histories.{doneIn, doneInTurn}
 use Rattle.scheduler.specs.Rules.{forbidden, owing}
 use Rattle.scheduler.specs.Orders.{fateAtTurn, doOne, mayDo}
 use Rattle.scheduler.specs.Demand.{unbreakable}
-use Rattle.plan.proofs.Tests.{clash, either, or-left, or-right, or-both, and-right, and-both, and-not, any-false}
+use Rattle.theory.specs.Waiting.{Awaits, plainBars, plainOwes}
+use Rattle.plan.proofs.Tests.{clash, either, or-left, or-right, or-both, or-either, or-right-true, and-left, and-right, and-both, and-not, any-false}
 use Rattle.plan.proofs.Lines.{turn-append, done-settled-if}
 use Rattle.plan.proofs.RuleReads.{two-named, ThreeNamed, triple-named}
 use Rattle.orders.proofs.Doing.{done-settled, gone-settled}
-use Rattle.scheduler.proofs.Laws.{turn-done, turn-settled, fate-settle-other, broken-settle}
+use Rattle.scheduler.proofs.Laws.{turn-done, turn-settled, plan-settle, fate-settle-other, broken-settle}
 use Rattle.scheduler.proofs.Searching.{ready-unsettled}
 use Rattle.theory.proofs.SoundPlans.{Sound, rule-named}
+use Rattle.theory.proofs.Waits.{awaits-unbreakable, awaits-bars, awaits-owes, bars-plain, owes-plain}
 use Rattle.theory.proofs.HistoryInvariant.{Shape, HistoryListed, fate-then, lines-then}
 
 -- tests
@@ -116,15 +118,56 @@ unpaid s (Order a b) = false
 unpaid s (Need a b) = isDone (fateOf s a) && isGone (fateOf s b)
 unpaid s (Conditional a b c) = isDone (fateOf s a) && isDone (fateOf s b) && isGone (fateOf s c)
 
--- states that agree on what is done and on what is gone owe the same, and leave the same unpaid
+pub owed-less : (d d′ t t′ : Bool) → (d && not t) ≡ false → (d′ ≡ true → d ≡ true) → (t ≡ true → t′ ≡ true) → (d′ && not t′) ≡ false
+owed-less d true t t′ h fewer more = rw (more (not-false t (and-not d (not t) h (fewer refl))))
+owed-less d false t t′ h fewer more = refl
+
+-- where no more is done or open, and no less settled, a rule that owed nothing still does not
+module _ (p : Plan) (f g : Fates) (done : (j : ℕ) → isDone (g j) ≡ true → isDone (f j) ≡ true)
+    (opens : (j : ℕ) → isOpen (g j) ≡ true → isOpen (f j) ≡ true)
+    (settled : (j : ℕ) → isSettled (f j) ≡ true → isSettled (g j) ≡ true) where
+  unstoppable-less : (t : ℕ) → unstoppable p g t ≡ true → unstoppable p f t ≡ true
+  unfolding unstoppable
+  unstoppable-less t h =
+      let r = not (rejectable p t) in
+      let d = not (delayable p t) in
+      let q = and-left (isOpen (g t) && r) d h in
+      and-both (isOpen (f t) && r) d
+      (and-both (isOpen (f t)) r (opens t (and-left (isOpen (g t)) r q)) (and-right (isOpen (g t)) r q))
+      (and-right (isOpen (g t) && r) d h)
+
+  reckoned-less : (c t : ℕ) → reckoned p g c t ≡ true → reckoned p f c t ≡ true
+  unfolding reckoned
+  reckoned-less c t h =
+      let n = not (forcible p c) in
+      elim (or-either (isDone (g t)) (unstoppable p g t && n) h) [
+        | inl d ↦ rw (done t d)
+        | inr u ↦
+            rw (and-both (unstoppable p f t) n (unstoppable-less t (and-left (unstoppable p g t) n u)) (and-right (unstoppable p g t) n u))
+            (or-right-true (isDone (f t)))
+      ]
+
+  triggered-less : (c a b : ℕ) → triggered p g c a b ≡ true → triggered p f c a b ≡ true
+  unfolding triggered
+  triggered-less c a b h =
+      let by : (x y : ℕ) → (isDone (g x) && reckoned p g c y) ≡ true → (isDone (f x) && reckoned p f c y) ≡ true =
+      λ x y t. and-both (isDone (f x)) (reckoned p f c y)
+      (done x (and-left (isDone (g x)) (reckoned p g c y) t)) (reckoned-less c y (and-right (isDone (g x)) (reckoned p g c y) t)) in
+      elim (or-either (isDone (g a) && reckoned p g c b) (isDone (g b) && reckoned p g c a) h) [
+        | inl t ↦ rw (by a b t)
+        | inr t ↦ rw (by b a t) (or-right-true (isDone (f a) && reckoned p f c b))
+      ]
+
+  pub owes-less : (r : Rule) → owes p f r ≡ false → owes p g r ≡ false
+  unfolding owes
+  owes-less (Order a b) h = refl
+  owes-less (Need a b) h = owed-less (isDone (f a)) (isDone (g a)) (isSettled (f b)) (isSettled (g b)) h (done a) (settled b)
+  owes-less (Conditional a b c) h =
+      owed-less (triggered p f c a b) (triggered p g c a b) (isSettled (f c)) (isSettled (g c)) h (triggered-less c a b) (settled c)
+
+-- states that agree on what is done and on what is gone leave the same unpaid
 module _ (s t : State) (done : (j : ℕ) → isDone (fateOf t j) ≡ isDone (fateOf s j))
     (gone : (j : ℕ) → isGone (fateOf t j) ≡ isGone (fateOf s j)) where
-  pub owes-same : (p q : Plan) (r : Rule) → owes q (fateOf t) r ≡ owes p (fateOf s) r
-  unfolding owes
-  owes-same p q (Order a b) = refl
-  owes-same p q (Need a b) = rw (done a, done b, gone b)
-  owes-same p q (Conditional a b c) = rw (done a, done b, done c, gone c)
-
   pub unpaid-same : (r : Rule) → unpaid t r ≡ unpaid s r
   unfolding unpaid
   unpaid-same (Order a b) = refl
@@ -144,8 +187,9 @@ pub record RulesObeyed (p : Plan) (s : State) : Type 0 where
       → doneInTurn (lines s) b a ≡ false
   pub paid : NoStanding p s (unpaid s)
 
--- from an admitted sheet on: an order's b that can wait is done after its a is settled, and only a rule with a
--- trigger that cannot be refused is recorded as broken
+-- from an admitted sheet on: an order's b that can wait is done after its a is settled; no trigger of a conditional is
+-- done without hope for its c while the other, which nothing can stop, is open; and only a rule that may be broken is
+-- recorded as broken
 pub record Strict (p : Plan) (s : State) : Type 0 where
   pub first : (i a b : ℕ)
       → i < ruleCount p
@@ -153,14 +197,22 @@ pub record Strict (p : Plan) (s : State) : Type 0 where
       → delayable p b ≡ true
       → isDone (fateOf s b) ≡ true
       → isSettled (fateOf s a) ≡ true
+  pub spared : (o t c : ℕ)
+      → Awaits p o t c
+      → isOpen (fateOf s t) ≡ true
+      → isDone (fateOf s o) ≡ true
+      → isGone (fateOf s c) ≡ false
   pub weak : (i : ℕ) → i < ruleCount p → brokenAt s i ≡ true → unbreakable p (ruleAt p i) ≡ false
 
 -- no rule owes
 abbrev pub Quiet : Plan → State → Type 0
 Quiet p s = NoStanding p s (owes (s .plan) (fateOf s))
 
--- t reads to the rules as s does: what is done and what is gone, the rules recorded as broken, and the history
+-- t reads to the rules as s does: the plan, what is done and what is gone, the rules recorded as broken, and the history.
+-- No more is open
 pub record SameToRules (s t : State) : Type 0 where
+  pub same-plan : t .plan ≡ s .plan
+  pub opens : (j : ℕ) → isOpen (fateOf t j) ≡ true → isOpen (fateOf s j) ≡ true
   pub done : (j : ℕ) → isDone (fateOf t j) ≡ isDone (fateOf s j)
   pub gone : (j : ℕ) → isGone (fateOf t j) ≡ isGone (fateOf s j)
   pub recorded : (i : ℕ) → brokenAt t i ≡ brokenAt s i
@@ -177,15 +229,30 @@ module _ {s t : State} (a : SameToRules s t) where
   }
 
   pub quiet-same : (p : Plan) → Quiet p s → Quiet p t
-  quiet-same p q i l n = owes-same s t (a .done) (a .gone) (s .plan) (t .plan) (ruleAt p i) ∙ q i l (unbroken-same i n)
+  quiet-same p q i l n =
+      ap (λ v. owes v (fateOf t) (ruleAt p i)) (a .same-plan)
+      ∙ owes-less (s .plan) (fateOf s) (fateOf t) (λ j h. sym (a .done j) ∙ h) (a .opens)
+      (λ j h. rw (a .done j, a .gone j) h) (ruleAt p i) (q i l (unbroken-same i n))
 
   pub strict-same : {p : Plan} → Strict p s → Strict p t
   strict-same {p} w = record {
     first = λ i x y l r d h. rw (a .done x, a .gone x) (w .first i x y l r d (sym (a .done y) ∙ h));
+    spared = λ o t c v h d. a .gone c ∙ w .spared o t c v (a .opens t h) (sym (a .done o) ∙ d);
     weak = λ i l n. w .weak i l (sym (a .recorded i) ∙ n);
   }
 
--- an order rule is never recorded as broken
+-- a rule that must never be broken is not recorded as broken: an order rule, and one that makes a trigger wait
+pub weak-unbroken : {p : Plan} {s : State}
+    → Strict p s
+    → (i : ℕ)
+    → i < ruleCount p
+    → unbreakable p (ruleAt p i) ≡ true
+    → brokenAt s i ≡ false
+weak-unbroken {p} {s} w i lt u = elim (either (brokenAt s i)) [
+  | inr n ↦ n
+  | inl y ↦ absurd (clash u (w .weak i lt y))
+]
+
 pub order-unbroken : {p : Plan} {s : State}
     → Strict p s
     → (i a b : ℕ)
@@ -193,10 +260,10 @@ pub order-unbroken : {p : Plan} {s : State}
     → ruleAt p i ≡ Order a b
     → brokenAt s i ≡ false
 unfolding unbreakable
-order-unbroken {p} {s} w i a b lt r = elim (either (brokenAt s i)) [
-  | inr n ↦ n
-  | inl y ↦ absurd (clash refl (rw r at (w .weak i lt y)))
-]
+order-unbroken w i a b lt r = weak-unbroken w i lt (rw r)
+
+pub awaits-unbroken : {p : Plan} {s : State} {o t c : ℕ} → Strict p s → (v : Awaits p o t c) → brokenAt s (v .place) ≡ false
+awaits-unbroken w v = weak-unbroken w (v .place) (v .within) (awaits-unbreakable v)
 
 -- tests over the rules of a state, read by its plan
 pub at-rule : {p : Plan} {s : State}
@@ -222,8 +289,23 @@ pub quiet-of : {p : Plan} {s : State} → Shape p s → owing s ≡ false → Qu
 unfolding owing
 quiet-of {p} {s} sh h = at-rule sh (owes (s .plan) (fateOf s)) h
 
+pub bars-same : {p : Plan} {s : State} → Shape p s → (f : Fates) (r : Rule) (e : ℕ) → bars (s .plan) f r e ≡ bars p f r e
+bars-same sh f r e = ap (λ q. bars q f r e) (sh .same-plan)
+
+pub owes-same : {p : Plan} {s : State} → Shape p s → (f : Fates) (r : Rule) → owes (s .plan) f r ≡ owes p f r
+owes-same sh f r = ap (λ q. owes q f r) (sh .same-plan)
+
 pub delayable-same : {p : Plan} {s : State} → Shape p s → (e : ℕ) → delayable (s .plan) e ≡ delayable p e
 delayable-same sh e = ap (λ q. delayable q e) (sh .same-plan)
+
+-- what is settled is not open
+pub settled-closed : (x : Fate) → isSettled x ≡ true → isOpen x ≡ false
+settled-closed Open h = sym h
+settled-closed Held h = refl
+settled-closed Done h = refl
+settled-closed Refused h = refl
+settled-closed Lapsed h = refl
+settled-closed Forced h = refl
 
 -- the fates after a settlement of an unsettled event e
 module _ {p : Plan} {s : State} (x : Fate) (e : ℕ) (fin : isSettled x ≡ true) (k : HistoryListed p s)
@@ -233,6 +315,13 @@ module _ {p : Plan} {s : State} (x : Fate) (e : ℕ) (fin : isSettled x ≡ true
 
   pub settled-stays : (j : ℕ) → isSettled (fateOf s j) ≡ true → isSettled (fateOf (settleAs x s e) j) ≡ true
   settled-stays j h = elim (ℕ-discrete j e) [ yes r ↦ rw (r, at-e) fin | no ne ↦ rw (fate-settle-other x s e j ne) h ]
+
+  -- what is open was so
+  pub open-then : (j : ℕ) → isOpen (fateOf (settleAs x s e) j) ≡ true → isOpen (fateOf s j) ≡ true
+  open-then j h = elim (ℕ-discrete j e) [
+    | yes r ↦ absurd (clash h (rw (r, at-e) (settled-closed x fin)))
+    | no ne ↦ rw (fate-settle-other x s e j ne) at h
+  ]
 
   -- done: also e, if it is done
   pub done-then : (j : ℕ) → isDone (fateOf (settleAs x s e) j) ≡ ((eqb e j && isDone x) || isDone (fateOf s j))
@@ -252,7 +341,7 @@ module _ {p : Plan} {s : State} (x : Fate) (e : ℕ) (fin : isSettled x ≡ true
   ]
 
 -- what is done is not gone
-not-done : (x : Fate) → isDone x ≡ true → isGone x ≡ false
+pub not-done : (x : Fate) → isDone x ≡ true → isGone x ≡ false
 not-done Open h = refl
 not-done Held h = refl
 not-done Done h = refl
@@ -274,11 +363,11 @@ module _ {p : Plan} {s : State} (sd : Sound p) (x : Fate) (is-done : isDone x �
       → bars (s .plan) (fateOf s) r e ≡ false
       → ((a b c : ℕ) → r ≡ Conditional a b c → eqb a b ≡ false)
       → unpaid (settleAs x s e) r ≡ false
-  unfolding unpaid bars
+  unfolding unpaid plainBars
   paid-do (Order a b) u v z = refl
   paid-do (Need a b) u v z =
       rw (done-then x e is-settled k lt un a, gone-then x e is-settled k lt un b, is-done, is-kept, and-true, and-false)
-      (joined (eqb e a) (isDone (fateOf s a)) (isGone (fateOf s b)) v u)
+      (joined (eqb e a) (isDone (fateOf s a)) (isGone (fateOf s b)) (bars-plain (s .plan) (fateOf s) (Need a b) e v) u)
   paid-do (Conditional a b c) u v z =
       rw (
         done-then x e is-settled k lt un a,
@@ -291,7 +380,7 @@ module _ {p : Plan} {s : State} (sd : Sound p) (x : Fate) (is-done : isDone x �
         and-false (eqb e c),
       )
       (both-gone (eqb e a) (eqb e b) (isDone (fateOf s a)) (isDone (fateOf s b)) (isGone (fateOf s c))
-      (differ e a b (z a b c refl)) u v)
+      (differ e a b (z a b c refl)) u (bars-plain (s .plan) (fateOf s) (Conditional a b c) e v))
 
   turn-do : (i a b : ℕ)
       → i < ruleCount p
@@ -364,16 +453,36 @@ module _ {p : Plan} {s : State} (sd : Sound p) (e : ℕ) (k : HistoryListed p s)
     | no ne ↦ w .first i a b l r d (rw (fate-settle-other (fateAtTurn s e) s e b ne) at h)
   ])
 
+  spared-do : Strict p s
+      → (o t c : ℕ)
+      → Awaits p o t c
+      → isOpen (fateOf (doOne s e) t) ≡ true
+      → isDone (fateOf (doOne s e) o) ≡ true
+      → isGone (fateOf (doOne s e) c) ≡ false
+  spared-do w o t c v h d =
+      let x = fateAtTurn s e in
+      let comes = open-then x e (turn-settled s e) k lt un t h in
+      gone-then x e (turn-settled s e) k lt un c
+      ∙ or-both (eqb e c && isGone x) (isGone (fateOf s c)) (rw (not-done x (turn-done s e)) (and-false (eqb e c)))
+      (elim (ℕ-discrete o e) [
+        | no ne ↦ w .spared o t c v comes (rw (fate-settle-other x s e o ne) at d)
+        | yes q ↦ elim (either (isGone (fateOf s c))) [
+          | inr z ↦ z
+          | inl z ↦ absurd (clash (bars-same (k .shape) (fateOf s) (ruleAt p (v .place)) o ∙ awaits-bars v (fateOf s) comes z)
+              (rw q (no-bar (v .place) (v .within) (awaits-unbroken w v))))
+        ]
+      ])
+
   pub strict-do : Strict p s → Strict p (doOne s e)
-  strict-do w = record { first = first-do w; weak = λ i l b. w .weak i l (sym (broken-settle (fateAtTurn s e) s e i) ∙ b) }
+  strict-do w = record {
+    first = first-do w;
+    spared = spared-do w;
+    weak = λ i l b. w .weak i l (sym (broken-settle (fateAtTurn s e) s e i) ∙ b);
+  }
 
 unowed : (d t : Bool) → (d && not t) ≡ false → t ≡ false → d ≡ false
 unowed true t h q = absurd (clash (ap not q) h)
 unowed false t h q = refl
-
-pub owed-later : (d t t′ : Bool) → (d && not t) ≡ false → (t ≡ true → t′ ≡ true) → (d && not t′) ≡ false
-owed-later true t t′ h g = rw (g (not-false t h))
-owed-later false t t′ h g = refl
 
 guarded : (d t g : Bool) → (d && g) ≡ false → (t ≡ true → d ≡ false) → (d && (t || g)) ≡ false
 guarded true true g p q = q refl
@@ -401,31 +510,25 @@ module _ {p : Plan} {s : State} (x : Fate) (gx : isGone x ≡ true) (e : ℕ) (k
   gone-also j = gone-then x e fin k lt un j ∙ rw (gx, and-true (eqb e j))
 
   paid-drop : (r : Rule) → unpaid s r ≡ false → owes (s .plan) (fateOf s) r ≡ false → unpaid (settleAs x s e) r ≡ false
-  unfolding unpaid owes
+  unfolding unpaid plainOwes
   paid-drop (Order a b) u v = refl
   paid-drop (Need a b) u v =
       rw (done-same a, gone-also b)
       (guarded (isDone (fateOf s a)) (eqb e b) (isGone (fateOf s b)) u
-      (λ q. unowed (isDone (fateOf s a)) (isSettled (fateOf s b)) v (rw (← eqb-true e b q) un)))
+      (λ q. unowed (isDone (fateOf s a)) (isSettled (fateOf s b)) (owes-plain (s .plan) (fateOf s) (Need a b) v) (rw (← eqb-true e b q) un)))
   paid-drop (Conditional a b c) u v =
       rw (done-same a, done-same b, gone-also c)
       (guarded (isDone (fateOf s a) && isDone (fateOf s b)) (eqb e c) (isGone (fateOf s c)) u
-      (λ q. unowed (isDone (fateOf s a) && isDone (fateOf s b)) (isSettled (fateOf s c)) v
-      (rw (← eqb-true e c q) un)))
+      (λ q. unowed (isDone (fateOf s a) && isDone (fateOf s b)) (isSettled (fateOf s c))
+      (owes-plain (s .plan) (fateOf s) (Conditional a b c) v) (rw (← eqb-true e c q) un)))
 
   owes-drop : (r : Rule)
       → owes (s .plan) (fateOf s) r ≡ false
       → owes ((settleAs x s e) .plan) (fateOf (settleAs x s e)) r ≡ false
-  unfolding owes
-  owes-drop (Order a b) v = refl
-  owes-drop (Need a b) v =
-      rw (done-same a)
-      (owed-later (isDone (fateOf s a)) (isSettled (fateOf s b)) (isSettled (fateOf (settleAs x s e) b)) v
-      (settled-stays x e fin k lt un b))
-  owes-drop (Conditional a b c) v =
-      rw (done-same a, done-same b)
-      (owed-later (isDone (fateOf s a) && isDone (fateOf s b)) (isSettled (fateOf s c))
-      (isSettled (fateOf (settleAs x s e) c)) v (settled-stays x e fin k lt un c))
+  owes-drop r v =
+      ap (λ q. owes q (fateOf (settleAs x s e)) r) (plan-settle x s e)
+      ∙ owes-less (s .plan) (fateOf s) (fateOf (settleAs x s e)) (λ j h. sym (done-same j) ∙ h)
+      (open-then x e fin k lt un) (settled-stays x e fin k lt un) r v
 
   unbroken : (i : ℕ) → brokenAt (settleAs x s e) i ≡ false → brokenAt s i ≡ false
   unbroken i b = sym (broken-settle x s e i) ∙ b
@@ -438,11 +541,57 @@ module _ {p : Plan} {s : State} (x : Fate) (gx : isGone x ≡ true) (e : ℕ) (k
     paid = λ i l n. paid-drop (ruleAt p i) (w .paid i l (unbroken i n)) (qt i l (unbroken i n));
   }
 
-  pub strict-drop : Strict p s → Strict p (settleAs x s e)
-  strict-drop w = record {
+  spared-drop : Quiet p s
+      → Strict p s
+      → (o t c : ℕ)
+      → Awaits p o t c
+      → isOpen (fateOf (settleAs x s e) t) ≡ true
+      → isDone (fateOf (settleAs x s e) o) ≡ true
+      → isGone (fateOf (settleAs x s e) c) ≡ false
+  spared-drop qt w o t c v h d =
+      let comes = open-then x e fin k lt un t h in
+      let did = sym (done-same o) ∙ d in
+      gone-also c ∙ or-both (eqb e c) (isGone (fateOf s c)) (elim (either (eqb e c)) [
+        | inr z ↦ z
+        | inl z ↦ absurd (clash
+            (owes-same (k .shape) (fateOf s) (ruleAt p (v .place)) ∙ awaits-owes v (fateOf s) comes did (rw (← eqb-true e c z) un))
+            (qt (v .place) (v .within) (awaits-unbroken w v)))
+      ]) (w .spared o t c v comes did)
+
+  pub strict-drop : Quiet p s → Strict p s → Strict p (settleAs x s e)
+  strict-drop qt w = record {
     first = λ i a b l r d h. settled-stays x e fin k lt un a (w .first i a b l r d (sym (done-same b) ∙ h));
+    spared = spared-drop qt w;
     weak = λ i l b. w .weak i l (sym (broken-settle x s e i) ∙ b);
   }
 
   pub quiet-drop : Quiet p s → Quiet p (settleAs x s e)
   quiet-drop qt i l n = owes-drop (ruleAt p i) (qt i l (unbroken i n))
+
+-- while no rule owes: where the other trigger is done, so is c
+module _ {p : Plan} {s : State} (sh : Shape p s) (qt : Quiet p s) (w : Strict p s) where
+  pub provided-of : (o t c : ℕ) → Awaits p o t c → isOpen (fateOf s t) ≡ true → isDone (fateOf s o) ≡ true → isDone (fateOf s c) ≡ true
+  provided-of o t c v comes did = elim (either (isSettled (fateOf s c))) [
+    | inl z ↦ elim (or-either (isDone (fateOf s c)) (isGone (fateOf s c)) z) [
+      | inl d ↦ d
+      | inr g ↦ absurd (clash g (w .spared o t c v comes did))
+    ]
+    | inr z ↦ absurd (clash
+        (owes-same sh (fateOf s) (ruleAt p (v .place)) ∙ awaits-owes v (fateOf s) comes did z)
+        (qt (v .place) (v .within) (awaits-unbroken w v)))
+  ]
+
+-- of the conditionals that made another trigger wait for e, which nothing can stop: if that one is done, so is c
+abbrev pub Covered : Plan → State → ℕ → Type 0
+Covered p s e = (o c : ℕ) → Awaits p o e c → isDone (fateOf s o) ≡ true → isDone (fateOf s c) ≡ true
+
+pub covered-same : {p : Plan} {s t : State}
+    → Shape p s
+    → Quiet p s
+    → Strict p s
+    → SameToRules s t
+    → (e : ℕ)
+    → isOpen (fateOf s e) ≡ true
+    → Covered p t e
+covered-same sh qt w a e comes o c v did =
+    a .done c ∙ provided-of sh qt w o e c v comes (sym (a .done o) ∙ did)

@@ -3,36 +3,39 @@
 use Prim.Native.Nat.{ℕ, zero, suc, _≤_, _<_}
 use native.Mathlib.Omega.{arith}
 use native.Mathlib.Decide.{ℕ-discrete}
-use borrow.Author.Tests.{eq-eqb, eqb-true, not-true}
+use borrow.Author.Tests.{eq-eqb, ne-eqb, eqb-true, eqb-false, not-true}
 use mathlib.Core.Bool.{Bool, true, false, not, _&&_, _||_, and-false, or-false}
 use mathlib.Core.List.{List, [], _∷_, _++_, append-nil, append-assoc, List·Memᴰ·head, List·Memᴰ·not-nil}
 use mathlib.Core.Logic.{_≢_, _⊎_, inl, inr}
 use mathlib.Core.Option.{Option, none, some}
-use mathlib.Core.Path.{_≡_, refl, sym, _∙_, ap, subst}
+use mathlib.Core.Path.{_≡_, refl, sym, _∙_, ap, ap₂, subst, fun-ext}
 use lib.Dec.{eqb}
 use lib.ListN.{getD}
 use Rattle.theory.proofs.Types.{Open, Held, Done, Refused, Rule, Order, Need, Conditional, Plan, Entry, State}
-use Rattle.plan.specs.Plans.{eventCount, ruleCount, stepOf, ruleAt, delayable, rejectable}
+use Rattle.plan.specs.Plans.{eventCount, ruleCount, stepOf, ruleAt, delayable, rejectable, forcible}
 use Rattle.scheduler.specs.State.{fateOf, brokenAt, closedAt, lineCount, lines, hold, settleAs}
 use Rattle.plan.specs.Histories.{blankEntry, fateIf}
 use Rattle.plan.specs.Fates.{isOpen, isHeld, isDone, isGone, isSettled}
-use Rattle.plan.specs.Rules.{enforceable, bars, makesWait, forbids, owes}
+use Rattle.plan.specs.Rules.{enforceable, unstoppable, reckoned, triggered, bars, makesWait, forbids, owes}
 use Rattle.scheduler.specs.Orders.{fateAtTurn, doOne, Viable, chosen, doAll, hasViable}
 use Rattle.scheduler.specs.Rules.{strains}
 use Rattle.scheduler.specs.Calls.{Turn, refuses, does, Turns, stay, turn, settle, breakIf, recordBroken, doAlone, submit}
 use Rattle.scheduler.specs.Demand.{unbreakable, startsDone}
 use Rattle.scheduler.specs.Grounds.{NoViable}
-use Rattle.plan.proofs.Tests.{clash, either, or-left, or-right, and-left, and-right, and-both, and-not}
+use Rattle.plan.proofs.Tests.{clash, either, or-left, or-right, or-both, and-left, and-right, and-both, and-not}
 use Rattle.plan.proofs.Fates.{open-is}
+use Rattle.orders.proofs.Doing.{done-settled}
 use Rattle.scheduler.proofs.Laws.{turn-settled, fate-settle-other, closed-settle, broken-settle, plan-hold, fate-hold-other, closed-hold, broken-hold, lines-hold}
 use Rattle.scheduler.proofs.Laws.{plan-break, fate-break, closed-break, history-break, len-break, lines-break, broken-break-same, broken-break-other, sized-break}
 use Rattle.scheduler.proofs.Branches.{decide-order, decide-refuse, decide-alone, submit-delayed, submit-decided}
 use Rattle.scheduler.proofs.Searching.{ready-unsettled, member-settled, chosen-none, chosen-first, viable-has, chosen-none-has}
 use Rattle.scheduler.proofs.Settling.{settle-turns}
+use Rattle.theory.specs.Waiting.{Awaits}
 use Rattle.theory.proofs.SoundPlans.{Sound, rule-enforced}
+use Rattle.theory.proofs.Waits.{awaits-other, reckoned-refusable, reckoned-at}
 use Rattle.theory.proofs.HistoryInvariant.{Shape, HistoryListed, BlankBeyond, listing-alike, same-events, shape-settle, fate-then, lines-then, listing-settle, beyond-settle, fate-held, as-held, listing-hold}
 use Rattle.theory.proofs.RuleInvariant.{NoStanding, RulesObeyed, Strict, Quiet, SameToRules, obeyed-same, quiet-same, unpaid, unpaid-same}
-use Rattle.theory.proofs.RuleInvariant.{owes-same, delayable-same, settled-stays, done-then, owed-later, obeyed-do, obeyed-done, obeyed-drop, quiet-drop}
+use Rattle.theory.proofs.RuleInvariant.{Covered, not-done, delayable-same, settled-stays, open-then, done-then, gone-then, owed-less, obeyed-do, obeyed-done, obeyed-drop, quiet-drop}
 use Rattle.theory.proofs.Invariant.{held-unsettled, open-unsettled, FatesLater, fates-trans, OpenNotClosed, Later, later-trans}
 use Rattle.theory.proofs.Invariant.{later-drop, Invariant, do-run, turn-keeps, turns-keeps, Resting, Settled, settle-keeps}
 
@@ -43,11 +46,31 @@ pub rules-hold : {p : Plan} {s : State} (e : ℕ)
     → fateOf s e ≡ Open
     → SameToRules s (hold s e)
 rules-hold {p} {s} e k lt op = record {
+  same-plan = plan-hold s e;
+  opens = λ j h. elim (ℕ-discrete j e) [
+    | yes r ↦ absurd (clash h (ap (λ i. isOpen (fateOf (hold s e) i)) r ∙ ap isOpen (fate-held e k lt op)))
+    | no ne ↦ sym (ap isOpen (fate-hold-other s e j ne)) ∙ h
+  ];
   done = as-held e k lt op isDone refl;
   gone = as-held e k lt op isGone refl;
   recorded = broken-hold s e;
   same-lines = lines-hold s e;
 }
+
+-- tests: a conditional's other trigger is done (d) only if c is, so that c is not gone (g) and is settled (z)
+calm-second-test : (g d x y z : Bool)
+    → (d ≡ true → g ≡ false)
+    → (d ≡ true → z ≡ true)
+    → (((g && d) || false) || (((d && x) || (y && d)) && not z)) ≡ false
+calm-second-test g true x y z a b = rw (a refl, b refl) (and-false (x || (y && true)))
+calm-second-test g false x y z a b = rw (and-false g, and-false y)
+
+calm-first-test : (g d x y z : Bool)
+    → (d ≡ true → g ≡ false)
+    → (d ≡ true → z ≡ true)
+    → (((g && (d || false)) || false) || (((y && d) || (d && x)) && not z)) ≡ false
+calm-first-test g true x y z a b = rw (a refl, b refl) (and-false ((y && true) || x))
+calm-first-test g false x y z a b = rw (and-false g, and-false y)
 
 -- u is t with those of the first n rules recorded that doing e in s strains
 pub record Recorded (p : Plan) (n : ℕ) (s : State) (e : ℕ) (t u : State) : Type 0 where
@@ -148,7 +171,8 @@ module _ {p : Plan} {s : State} (sd : Sound p) (e : ℕ) (k : HistoryListed p s)
   unpaid-recorded = unpaid-same g t (λ j. ap isDone (r .fate j)) (λ j. ap isGone (r .fate j))
 
   owes-recorded : (u : Rule) → owes (t .plan) (fateOf t) u ≡ owes (s .plan) (fateOf g) u
-  owes-recorded = owes-same g t (λ j. ap isDone (r .fate j)) (λ j. ap isGone (r .fate j)) (s .plan) (t .plan)
+  owes-recorded u =
+      ap₂ (λ q f. owes q f u) (r .shape .same-plan ∙ sym (k .shape .same-plan)) (fun-ext (r .fate))
 
   pub listing-alone : HistoryListed p t
   listing-alone =
@@ -212,8 +236,9 @@ module _ {p : Plan} {s : State} (sd : Sound p) (e : ℕ) (k : HistoryListed p s)
     | no ne ↦ inr (r .fate j ∙ fate-settle-other Done s e j ne)
   ]
 
-  -- it can be neither delayed nor refused, so that only a rule with such a trigger is recorded
-  module _ (nd : delayable p e ≡ false) (nr : rejectable p e ≡ false) (st : Strict p s) where
+  -- it can be neither delayed nor refused, so that only a rule with such a trigger is recorded, and no conditional that
+  -- made the other one wait
+  module _ (nd : delayable p e ≡ false) (nr : rejectable p e ≡ false) (st : Strict p s) (cv : Covered p s e) where
     order-a : (i a b : ℕ) → i < ruleCount p → ruleAt p i ≡ Order a b → e ≡ a → isDone (fateOf s b) ≡ true → ⊥
     unfolding enforceable
     order-a i a b l o z d =
@@ -244,23 +269,106 @@ module _ {p : Plan} {s : State} (sd : Sound p) (e : ℕ) (k : HistoryListed p s)
     unfolding forbids bars owes makesWait
     need-else a b z o =
         rw (z, done-else a z)
-        (owed-later (isDone (fateOf s a)) (isSettled (fateOf s b)) (isSettled (fateOf g b)) o
+        (owed-less (isDone (fateOf s a)) (isDone (fateOf s a)) (isSettled (fateOf s b)) (isSettled (fateOf g b)) o (λ d. d)
         (settled-stays Done e refl k lt un b))
+
+    reckoned-else : (a c : ℕ) → eqb e a ≡ false → reckoned (s .plan) (fateOf g) c a ≡ reckoned (s .plan) (fateOf s) c a
+    reckoned-else a c z = reckoned-at (s .plan) (fateOf g) (fateOf s) c a (fate-settle-other Done s e a (λ y. eqb-false e a z (sym y)))
 
     conditional-else : (a b c : ℕ)
         → eqb e a ≡ false
         → eqb e b ≡ false
         → owes (s .plan) (fateOf s) (Conditional a b c) ≡ false
         → strained (Conditional a b c) ≡ false
-    unfolding forbids bars owes makesWait
+    unfolding forbids bars owes triggered makesWait
     conditional-else a b c z y o =
-        rw (z, y, and-false (isGone (fateOf s c)), done-else a z, done-else b y)
-        (owed-later (isDone (fateOf s a) && isDone (fateOf s b)) (isSettled (fateOf s c)) (isSettled (fateOf g c)) o
-        (settled-stays Done e refl k lt un c))
+        rw (z, y, and-false (isGone (fateOf s c)), done-else a z, done-else b y, reckoned-else a c z, reckoned-else b c y)
+        (owed-less (triggered (s .plan) (fateOf s) c a b) (triggered (s .plan) (fateOf s) c a b) (isSettled (fateOf s c))
+        (isSettled (fateOf g c)) o (λ d. d) (settled-stays Done e refl k lt un c))
+
+    -- a conditional whose c cannot be forced, and e is its trigger that nothing can stop: the other can be refused, and is
+    -- done only if c is
+    module _ (o c : ℕ) (v : Awaits p o e c) where
+      abbrev did : Bool
+      did = isDone (fateOf s o)
+
+      apart : eqb e o ≡ false
+      apart = ne-eqb e o (λ z. clash (awaits-other v sd) (rw z at nr))
+
+      refusable : rejectable (s .plan) o ≡ true
+      refusable = ap (λ z. rejectable z o) (k .shape .same-plan) ∙ awaits-other v sd
+
+      reckoned-now : reckoned (s .plan) (fateOf s) c o ≡ did
+      reckoned-now = reckoned-refusable (s .plan) (fateOf s) c o refusable
+
+      reckoned-then : reckoned (s .plan) (fateOf g) c o ≡ did
+      reckoned-then = reckoned-refusable (s .plan) (fateOf g) c o refusable ∙ done-else o apart
+
+      kept-c : did ≡ true → isGone (fateOf s c) ≡ false
+      kept-c d = not-done (fateOf s c) (cv o c v d)
+
+      settled-c : did ≡ true → isSettled (fateOf g c) ≡ true
+      settled-c d = settled-stays Done e refl k lt un c (done-settled (fateOf s c) (cv o c v d))
+
+      calm-second : strained (Conditional o e c) ≡ false
+      unfolding forbids bars owes triggered makesWait
+      calm-second =
+          rw (apart, eq-eqb e e refl, reckoned-now, reckoned-then, done-else o apart)
+          (calm-second-test (isGone (fateOf s c)) did (reckoned (s .plan) (fateOf g) c e) (isDone (fateOf g e)) (isSettled (fateOf g c)) kept-c settled-c)
+
+      calm-first : strained (Conditional e o c) ≡ false
+      unfolding forbids bars owes triggered makesWait
+      calm-first =
+          rw (apart, eq-eqb e e refl, reckoned-now, reckoned-then, done-else o apart)
+          (calm-first-test (isGone (fateOf s c)) did (reckoned (s .plan) (fateOf g) c e) (isDone (fateOf g e)) (isSettled (fateOf g c)) kept-c settled-c)
+
+      calm-await : strained (ruleAt p (v .place)) ≡ false
+      calm-await = elim (v .is) [ inl z ↦ ap strained z ∙ calm-second | inr z ↦ ap strained z ∙ calm-first ]
 
     order-else : (i a b : ℕ) → i < ruleCount p → ruleAt p i ≡ Order a b → strained (Order a b) ≡ false
     unfolding forbids bars owes
     order-else i a b l o = rw (unforbidden i a b l o, no-wait a b)
+
+    -- so where it is strained, c can be forced
+    abbrev awaits-at : (i o c : ℕ)
+        → i < ruleCount p
+        → (ruleAt p i ≡ Conditional o e c) ⊎ (ruleAt p i ≡ Conditional e o c)
+        → forcible p c ≡ false
+        → Awaits p o e c
+    awaits-at i o c l is f = record {
+      place = i;
+      within = l;
+      is = is;
+      unrefusable = nr;
+      undelayable = nd;
+      unforcible = f;
+    }
+
+    first-forced : (i a b c : ℕ)
+        → i < ruleCount p
+        → ruleAt p i ≡ Conditional a b c
+        → e ≡ a
+        → strained (Conditional a b c) ≡ true
+        → not (forcible p c) ≡ false
+    first-forced i a b c l o y z = elim (either (forcible p c)) [
+      | inl f ↦ ap not f
+      | inr f ↦
+          let is : ruleAt p i ≡ Conditional e b c = o ∙ ap (λ x. Conditional x b c) (sym y) in
+          absurd (clash (ap strained o ∙ z) (calm-await b c (awaits-at i b c l (inr is) f)))
+    ]
+
+    second-forced : (i a b c : ℕ)
+        → i < ruleCount p
+        → ruleAt p i ≡ Conditional a b c
+        → e ≡ b
+        → strained (Conditional a b c) ≡ true
+        → not (forcible p c) ≡ false
+    second-forced i a b c l o y z = elim (either (forcible p c)) [
+      | inl f ↦ ap not f
+      | inr f ↦
+          let is : ruleAt p i ≡ Conditional a e c = o ∙ ap (λ x. Conditional a x c) (sym y) in
+          absurd (clash (ap strained o ∙ z) (calm-await a c (awaits-at i a c l (inl is) f)))
+    ]
 
     weak-alone : (i : ℕ) (u : Rule)
         → i < ruleCount p
@@ -275,9 +383,11 @@ module _ {p : Plan} {s : State} (sd : Sound p) (e : ℕ) (k : HistoryListed p s)
       | inr y ↦ absurd (clash z (need-else a b y v))
     ]
     weak-alone i (Conditional a b c) l o v z = elim (either (eqb e a)) [
-      | inl y ↦ rw (← eqb-true e a y, nr)
+      | inl y ↦ or-both (rejectable p a && rejectable p b) (not (forcible p c)) (rw (← eqb-true e a y, nr))
+          (first-forced i a b c l o (eqb-true e a y) z)
       | inr y ↦ elim (either (eqb e b)) [
-        | inl x ↦ rw (← eqb-true e b x, nr) (and-false (rejectable p a))
+        | inl x ↦ or-both (rejectable p a && rejectable p b) (not (forcible p c))
+            (rw (← eqb-true e b x, nr) (and-false (rejectable p a))) (second-forced i a b c l o (eqb-true e b x) z)
         | inr x ↦ absurd (clash z (conditional-else a b c y x v))
       ]
     ]
@@ -295,6 +405,13 @@ module _ {p : Plan} {s : State} (sd : Sound p) (e : ℕ) (k : HistoryListed p s)
             | yes y ↦ absurd (clash (rw y at d) nd)
             | no ne ↦ st .first i a b l o d (sym (ap isDone (r .fate b ∙ fate-settle-other Done s e b ne)) ∙ z)
           ]);
+      spared = λ o j c v h d.
+          let ne : o ≢ e = λ z. clash (awaits-other v sd) (rw z nr) in
+          ap isGone (r .fate c)
+          ∙ gone-then Done e refl k lt un c
+          ∙ or-both (eqb e c && false) (isGone (fateOf s c)) (and-false (eqb e c))
+          (st .spared o j c v (open-then Done e refl k lt un j (sym (ap isOpen (r .fate j)) ∙ h))
+          (sym (ap isDone (r .fate o ∙ fate-settle-other Done s e o ne)) ∙ d));
       weak = λ i l b. elim (r .only i b) [
         | inl y ↦ st .weak i l (sym (broken-settle Done s e i) ∙ y)
         | inr y ↦ newly i l (y .1)
@@ -385,7 +502,7 @@ pub record Submitted (p : Plan) (s t : State) (e : ℕ) : Type 0 where
   pub new : List Entry
   pub lines-new : lines t ≡ lines s ++ new
   pub beyond : BlankBeyond p s → BlankBeyond p t
-  pub strict : Strict p s → Strict p t
+  pub strict : Strict p s → Covered p s e → Strict p t
   pub manner : Manner s t e new
 
 module _ {p : Plan} {s : State} (sd : Sound p) (k : Invariant p s) (e : ℕ) (lt : e < eventCount p)
@@ -441,7 +558,7 @@ module _ {p : Plan} {s : State} (sd : Sound p) (k : Invariant p s) (e : ℕ) (lt
         new = y .later .new;
         lines-new = y .later .lines-new;
         beyond = y .later .beyond;
-        strict = y .later .strict;
+        strict = λ w cv. y .later .strict w;
         manner = ordered (viable-has s₁ e o (chosen-first s₁ e (k₁ .shape .sized) o z .viable))
             (y .later .same-broken);
       }
@@ -455,7 +572,7 @@ module _ {p : Plan} {s : State} (sd : Sound p) (k : Invariant p s) (e : ℕ) (lt
             new = a .new;
             lines-new = a .lines-new;
             beyond = y .later .beyond;
-            strict = y .later .strict;
+            strict = λ w cv. y .later .strict w;
             manner = waited (a .starts) (y .later .same-broken);
           }
 
@@ -484,7 +601,7 @@ module _ {p : Plan} {s : State} (sd : Sound p) (k : Invariant p s) (e : ℕ) (lt
     settled-then = settle-keeps sd invariant-then
 
     submitted-then : (BlankBeyond p s₁ → BlankBeyond p t)
-        → (Strict p s₁ → Strict p t)
+        → (Strict p s₁ → Covered p s₁ e → Strict p t)
         → (l : List Entry)
         → lines t ≡ lines s₁ ++ l
         → Manner s₁ (settle t) e (l ++ settled-then .later .new)
@@ -499,7 +616,7 @@ module _ {p : Plan} {s : State} (sd : Sound p) (k : Invariant p s) (e : ℕ) (lt
           ∙ ap (λ h. h ++ settled-then .later .new) ln
           ∙ append-assoc (lines s₁) l (settled-then .later .new);
       beyond = λ z. settled-then .later .beyond (ti z);
-      strict = λ z. settled-then .later .strict (st z);
+      strict = λ z cv. settled-then .later .strict (st z cv);
       manner = m;
     }
 
@@ -511,7 +628,7 @@ module _ {p : Plan} {s : State} (sd : Sound p) (k : Invariant p s) (e : ℕ) (lt
       let f = y .later in
       let z = settled-then (doAll s₁ o) (y .listing) (y .obeyed) (y .quiet) (f .fates) (f .same-closed) d in
       submitted-then (doAll s₁ o) (y .listing) (y .obeyed) (y .quiet) (f .fates) (f .same-closed) d
-      (f .beyond) (f .strict) (f .new) (f .lines-new)
+      (f .beyond) (λ z cv. f .strict z) (f .new) (f .lines-new)
       (ordered (viable-has s₁ e o v) (λ i. z .later .same-broken i ∙ f .same-broken i))
     where
       done-by-order : (o : List ℕ) → Viable s₁ e o → isSettled (fateOf (doAll s₁ o) e) ≡ true
@@ -520,13 +637,13 @@ module _ {p : Plan} {s : State} (sd : Sound p) (k : Invariant p s) (e : ℕ) (lt
   submit-refuse-keeps : chosen s₁ e ≡ none → Submitted p s₁ (settle (settleAs Refused s₁ e)) e
   unfolding startsDone
   submit-refuse-keeps n =
-      let f = later-drop Refused refl e k₁ lt un₁ in
+      let f = later-drop Refused refl e k₁ lt un₁ q₁ in
       let b = listing-settle Refused e refl k₁ lt un₁ in
       let w = obeyed-drop Refused refl e k₁ lt un₁ w₁ q₁ in
       let q = quiet-drop Refused refl e k₁ lt un₁ q₁ in
       let d = ap isSettled (fate-then Refused e refl k₁ lt un₁) in
       let z = settled-then (settleAs Refused s₁ e) b w q (f .fates) (f .same-closed) d in
-      submitted-then (settleAs Refused s₁ e) b w q (f .fates) (f .same-closed) d (f .beyond) (f .strict)
+      submitted-then (settleAs Refused s₁ e) b w q (f .fates) (f .same-closed) d (f .beyond) (λ z cv. f .strict z)
       (record { event = e; fate = Refused } ∷ []) (lines-then Refused e refl k₁ lt un₁)
       (waited (and-false (eqb e e)) (λ i. z .later .same-broken i ∙ f .same-broken i))
 

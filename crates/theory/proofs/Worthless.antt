@@ -6,12 +6,12 @@ use mathlib.Core.List.{List, [], _∷_, List·Memᴰ·not-nil, List·Memᴰ·hea
 use mathlib.Core.Option.{none, some}
 use mathlib.Core.Logic.{_≢_, inl, inr}
 use mathlib.Core.Path.{_≡_, refl, sym, _∙_, ap, subst}
-use Rattle.theory.proofs.Types.{Need, Fate, Open, Done, Refused, Forced, Order, State, Call, Submit, Close, Finish}
+use Rattle.theory.proofs.Types.{Need, Conditional, Fate, Open, Done, Refused, Forced, Order, State, Call, Submit, Close, Finish}
 use Rattle.plan.specs.Base.{anyBelow, allBelow, thoseBelow, among, firstOf, tabulate, lowest}
 use Rattle.plan.specs.Plans.{emptyPlan, eventCount, ruleCount, rejectable, delayable, hasEvent}
 use Rattle.scheduler.specs.State.{firstState, emptyState, fateOf, closedAt, hold, settleAs, shut, Sized}
 use Rattle.plan.specs.Fates.{isDone, isOpen}
-use Rattle.plan.specs.Rules.{owes, soundRule, named, enforceable, soundEvent, bars, makesWait, forbids, ready}
+use Rattle.plan.specs.Rules.{unstoppable, reckoned, triggered, owes, soundRule, named, enforceable, soundEvent, bars, makesWait, forbids, ready}
 use Rattle.scheduler.specs.Rules.{barred, forbidden, owing, strains}
 use Rattle.plan.specs.Histories.{anyDone, doneIn, doneInTurn, holds, fatesIn, declaredOnly, sameFates, listedAs}
 use Rattle.scheduler.specs.Orders.{mayDo, fateAtTurn, doOne, doAll, Viable, orderOf, chosen, someOrder, hasViable}
@@ -29,6 +29,7 @@ use Rattle.plan.proofs.Tests.{clash, any-none}
 use Rattle.scheduler.proofs.Laws.{turn-done, plan-hold, plan-one, sized-hold, sized-one, fate-hold-same, fate-settle-either}
 use Rattle.scheduler.specs.Doing.{Acts, Doing}
 use Rattle.theory.specs.Marks.{forget, unmarked, Forces, Reports}
+use Rattle.theory.specs.Waiting.{Awaits, Provides}
 use Rattle.theory.proofs.Demands.{first-sized}
 use Rattle.scheduler.proofs.Doing.{settled-fixed, rest-held}
 
@@ -319,3 +320,33 @@ not-forcer f =
     let z : _≡_ {A = Fate} Open Forced = f .others one 0 (first-sized (one .plan)) refl in
     let w : _≡_ {A = ℕ} 0 1 = cc in
     omega arith
+
+-- gives done to a trigger that has to wait: the consent form's sheet, on which 1 cannot be stopped
+abbrev consentForm : List ℕ
+consentForm = 1 ∷ 0 ∷ 6 ∷ 1 ∷ 1 ∷ 0 ∷ 1 ∷ 2 ∷ 6 ∷ 4 ∷ 0 ∷ 1 ∷ 2 ∷ 5 ∷ []
+
+abbrev consentFirst : State
+consentFirst = firstState (addRule (addEvent (addEvent (addEvent emptyPlan 0 6) 1 0) 2 6) (Conditional 0 1 2))
+
+read-consent : readSheet consentForm ≡ admitted consentFirst
+unfolding addEvent addRule declare recordFault readFrom readPlan ending sheetPlan readSheet firstFault named
+    enforceable ruleOf
+read-consent = refl
+
+pub not-hasty : Provides doer → ⊥
+unfolding addEvent addRule after settleAs
+not-hasty k =
+    let w : Awaits (consentFirst .plan) 0 1 2 = record {
+      place = 0;
+      within = omega arith;
+      is = inl refl;
+      unrefusable = refl;
+      undelayable = refl;
+      unforcible = refl;
+    } in
+    clash (k consentForm consentFirst (Submit 0 ∷ []) read-consent 0 1 2 w refl refl) refl
+
+-- and so breaks a rule that demand 3 names since S-6
+pub not-doer-waits : Keeps doer → ⊥
+unfolding shownBy unstoppable reckoned triggered owes holds doneIn anyDone orderOf firstOf chosen
+not-doer-waits k = clash refl (k consentForm consentFirst (Submit 0 ∷ Submit 1 ∷ []) read-consent .claim .kept 0 (omega arith) refl)

@@ -1,3 +1,4 @@
 -- What the theorems say that no function promises.
 pub mod HeldFirst
 pub mod Marks
+pub mod Waiting

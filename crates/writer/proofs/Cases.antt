@@ -7,7 +7,7 @@ use lib.ListN.{length, set}
 use Rattle.writer.specs.Types.{Submit, Close, State}
 use Rattle.plan.specs.Base.{anyBelow, allBelow, firstOf, tabulate, lowest}
 use Rattle.plan.specs.Plans.{hasEvent}
-use Rattle.plan.specs.Rules.{named, enforceable, soundEvent, soundRule, bars, makesWait, forbids, owes, ready}
+use Rattle.plan.specs.Rules.{named, enforceable, soundEvent, soundRule, unstoppable, reckoned, triggered, bars, makesWait, forbids, owes, ready}
 use Rattle.plan.specs.Histories.{listedAs, fatesIn, anyDone, doneIn, doneInTurn, holds, declaredOnly, sameFates}
 use Rattle.plan.specs.Faults.{firstFault, answerNumber}
 use Rattle.plan.specs.Records.{ruleOf, addEvent, addRule, addEvents, declare, recordFault}
@@ -98,7 +98,7 @@ cases =
 -- the joint proof
 pub written : map (λ (c : Case). outcome (c .0) (c .1)) cases ≡ map (λ (c : Case). (c .2, c .3, c .4)) cases
 unfolding outcome tabulate anyBelow allBelow firstOf lowest hold settleAs shut breakRule named enforceable soundEvent
-    soundRule bars makesWait forbids owes barred forbidden owing fatesIn anyDone doneIn doneInTurn holds ready mayDo
+    soundRule unstoppable reckoned triggered bars makesWait forbids owes barred forbidden owing fatesIn anyDone doneIn doneInTurn holds ready mayDo
     doAll orderOf chosen toRefuse toDo settleOnce settleUpTo settle strains recordBroken doAlone decide submit lapse
     closeStep refuseHeld finish firstFault declaredOnly sameFates listedAs coherentEvent coherentRule coherent hasEvent
     callFault accept call ruleOf addEvent addRule addEvents declare recordFault ending readFrom readPlan sheetPlan

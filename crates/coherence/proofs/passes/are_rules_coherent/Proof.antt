@@ -7,6 +7,7 @@ use borrow.Author.Tests.{not-true, not-false}
 use mathlib.Core.Bool.{true, _&&_}
 use mathlib.Core.List.{List}
 use mathlib.Core.Path.{_≡_, refl, sym}
+use Rattle.plan.specs.Fates.{fatesOf}
 use Rattle.plan.specs.Plans.{eventCount}
 use Rattle.plan.specs.Rules.{enforceable}
 use Rattle.coherence.specs.Listings.{Placed, placeIn}
@@ -17,17 +18,17 @@ use Rattle.coherence.proofs.passes.are_rules_coherent.Statement.{statem
 use Rattle.coherence.proofs.passes.are_rules_coherent.Tie as tie
 
 abbrev Inv-loop : tie.InvT-loop
-Inv-loop places broken event-count rule-count events rules i₀ i =
+Inv-loop standings places broken event-count rule-count events rules i₀ i =
     (i ≤ rule-count)
     × ((p : Plan) (h : List Entry)
     → p .events ≡ events
     → Placed h (placeIn places)
     → (k : ℕ)
     → k < i
-    → (admitsAt p event-count rules k && keptAt h broken rules k) ≡ true)
+    → (admitsAt p event-count rules k && keptAt p (fatesOf standings) h broken rules k) ≡ true)
 
 abbrev μ-loop : tie.MeasureT-loop
-μ-loop places broken event-count rule-count events rules i₀ i = rule-count - i
+μ-loop standings places broken event-count rule-count events rules i₀ i = rule-count - i
 
 loop-holds : tie.Need-loop-holds Inv-loop μ-loop
 loop-holds c = (omega arith, λ p h same placed k lt. absurd (omega arith))
@@ -47,8 +48,8 @@ is-admitted-requires c κs = search needs
 returns : tie.Need-returns Inv-loop μ-loop
 returns c =
     let s = c .before .before .before .before .before .before .before in
-    λ f closed h placed pass.
-    sym (rule-unsound (s .args .plan) f (s .args .t2) closed h (s .pre .1) pass (c .before .before .before .before .loop .i) (c .before .before .before .loop-test .taken)
+    λ closed h placed pass.
+    sym (rule-unsound (s .args .plan) (fatesOf (s .args .standings)) (s .args .t3) closed h (s .pre .1) pass (c .before .before .before .before .loop .i) (c .before .before .before .loop-test .taken)
     (not-true _ (rw (c .before .is-admitted .ensures (s .args .plan) refl) at (c .if1 .taken))))
 
 cast-if2 : tie.Need-cast-if2 Inv-loop μ-loop
@@ -66,12 +67,21 @@ does-hold-requires c κs =
           (not-false _ (rw (c .before .is-admitted .ensures (s .args .plan) refl) at (c .if1 .left))),
     )
 
+does-await-requires : tie.Need-does-await-requires Inv-loop μ-loop
+does-await-requires c κs =
+    let s = c .before .before .before .before .before .before .before .before in (
+      eventCount (s .args .plan),
+      s .pre .0,
+      and-left _ (enforceable (s .args .plan) (ruleIn (s .args .plan .rules) (c .before .before .before .before .before .loop .i)))
+          (not-false _ (rw (c .before .before .is-admitted .ensures (s .args .plan) refl) at (c .before .if1 .left))),
+    )
+
 returns-2 : tie.Need-returns-2 Inv-loop μ-loop
 returns-2 c =
-    let s = c .before .before .before .before .before .before .before .before .before in
-    λ f closed h placed pass.
-    sym (rule-breaks (s .args .plan) f (s .args .t2) closed h (s .pre .1) pass (c .before .before .before .before .before .before .loop .i) (c .before .before .before .before .before .loop-test .taken)
-    (not-true _ (rw (c .before .does-hold .ensures h placed) at (c .if2 .taken))))
+    let s = c .before .before .before .before .before .before .before .before .before .before in
+    λ closed h placed pass.
+    sym (rule-breaks (s .args .plan) (fatesOf (s .args .standings)) (s .args .t3) closed h (s .pre .1) pass (c .before .before .before .before .before .before .before .loop .i) (c .before .before .before .before .before .before .loop-test .taken)
+    (not-true _ (rw (c .before .before .does-hold .ensures h placed, c .before .does-await .ensures (s .args .plan) refl) at (c .if2 .taken))))
 
 add-i : tie.Need-add-i Inv-loop μ-loop
 add-i c = search needs
@@ -81,21 +91,21 @@ loop-less c = search needs
 
 loop-again : tie.Need-loop-again Inv-loop μ-loop
 loop-again c =
-    let s = c .before .before .before .before .before .before .before .before .before in
-    let i = c .before .before .before .before .before .before .loop in (
+    let s = c .before .before .before .before .before .before .before .before .before .before in
+    let i = c .before .before .before .before .before .before .before .loop in (
       omega arith,
       λ p h same placed.
           below-more _ _ (i .inv .1 p h same placed)
-          (kept-both p (eventCount (s .args .plan)) h (s .args .t2) (s .args .plan .rules) (i .i)
-          (not-false _ (rw (c .before .before .before .is-admitted .ensures p same) at (c .before .before .if1 .left)))
-          (not-false _ (rw (c .before .does-hold .ensures h placed) at (c .if2 .left)))),
+          (kept-both p (fatesOf (s .args .standings)) (eventCount (s .args .plan)) h (s .args .t3) (s .args .plan .rules) (i .i)
+          (not-false _ (rw (c .before .before .before .before .is-admitted .ensures p same) at (c .before .before .before .if1 .left)))
+          (not-false _ (rw (c .before .before .does-hold .ensures h placed, c .before .does-await .ensures p same) at (c .if2 .left)))),
     )
 
 returns-3 : tie.Need-returns-3 Inv-loop μ-loop
 returns-3 c =
     let s = c .before .before .before .before in
-    λ f closed h placed pass.
-    sym (rules-pass (s .args .plan) f (s .args .t2) closed h (s .pre .1) pass
+    λ closed h placed pass.
+    sym (rules-pass (s .args .plan) (fatesOf (s .args .standings)) (s .args .t3) closed h (s .pre .1) pass
     (λ k lt. c .before .loop .inv .1 (s .args .plan) h refl placed k (omega arith)))
 
 pub are-rules-coherent-spec : {M : Type 1} → statement M
@@ -113,6 +123,7 @@ are-rules-coherent-spec =
     cast-if2
     array-read-if2
     does-hold-requires
+    does-await-requires
     returns-2
     add-i
     loop-less

@@ -47,7 +47,7 @@ returns-4 c =
     let s = c .before .before .before .before .before .before .before .before .before in
     let told = c .before .before .before .before .before .before .before .list-events .ensures .passes (not-false _ (c .before .before .before .before .before .if2 .left)) in
     let pass = not-false _ (rw (c .before .before .are-events-coherent .ensures _ (told .events)) at (c .before .if3 .left)) in
-    c .are-rules-coherent .ensures _ _ _ (told .placed) pass
+    c .are-rules-coherent .ensures _ _ (told .placed) pass
     ∙ sym (rules-decide (s .args .plan) (s .args .len) (fatesOf (s .args .standings)) (s .args .broken) (s .args .closed) (take (s .args .len) (s .args .history))
     (c .before .before .before .before .before .before .before .before .if1 .left) (told .declared) pass)
 

@@ -37,14 +37,14 @@ enum-known-rule-3 c = search needs
 is-in-requires-5 : tie.Need-is-in-requires-5
 is-in-requires-5 c κs = search needs
 
-is-in-requires-6 : tie.Need-is-in-requires-6
-is-in-requires-6 c κs = search needs
+is-reckoned-requires : tie.Need-is-reckoned-requires
+is-reckoned-requires c κs = search needs
 
 with-if-requires-4 : tie.Need-with-if-requires-4
 with-if-requires-4 c κs = search needs
 
-is-in-requires-7 : tie.Need-is-in-requires-7
-is-in-requires-7 c κs = search needs
+is-reckoned-requires-2 : tie.Need-is-reckoned-requires-2
+is-reckoned-requires-2 c κs = search needs
 
 with-if-requires-5 : tie.Need-with-if-requires-5
 with-if-requires-5 c κs = search needs
@@ -71,9 +71,9 @@ returns-3 c = λ p f shows x lt.
     conditional-blocks p f _ shows _ _ _ _ _ x lt _ _ _ _ _ _
     (c .before .before .before .before .before .before .rule3 .given .1)
     (c .before .before .before .before .is-in5 .ensures)
-    (c .before .before .before .is-in6 .ensures)
+    (c .before .before .before .is-reckoned .ensures p f shows)
     (c .before .before .with-if4 .ensures x)
-    (c .before .is-in7 .ensures)
+    (c .before .is-reckoned2 .ensures p f shows)
     (c .with-if5 .ensures x)
 
 pub add-blocked-spec : {M : Type 1} → statement M
@@ -91,9 +91,9 @@ add-blocked-spec =
     with-if-requires-3
     enum-known-rule-3
     is-in-requires-5
-    is-in-requires-6
+    is-reckoned-requires
     with-if-requires-4
-    is-in-requires-7
+    is-reckoned-requires-2
     with-if-requires-5
     returns
     returns-2

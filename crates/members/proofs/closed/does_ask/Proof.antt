@@ -34,8 +34,14 @@ is-in-requires-6 c κs = search needs
 is-in-requires-7 : tie.Need-is-in-requires-7
 is-in-requires-7 c κs = search needs
 
+is-reckoned-requires : tie.Need-is-reckoned-requires
+is-reckoned-requires c κs = search needs
+
 is-in-requires-8 : tie.Need-is-in-requires-8
 is-in-requires-8 c κs = search needs
+
+is-reckoned-requires-2 : tie.Need-is-reckoned-requires-2
+is-reckoned-requires-2 c κs = search needs
 
 returns : tie.Need-returns
 returns c = λ p f shows.
@@ -47,12 +53,14 @@ returns-2 c = λ p f shows.
 
 returns-3 : tie.Need-returns-3
 returns-3 c = λ p f shows.
-    conditional-asks p f _ shows _ _ _ _ _ _ _ _ _
-    (c .before .before .before .before .before .rule3 .given .1)
-    (c .before .before .before .is-in5 .ensures)
-    (c .before .before .is-in6 .ensures)
-    (c .before .is-in7 .ensures)
-    (c .is-in8 .ensures)
+    conditional-asks p f _ shows _ _ _ _ _ _ _ _ _ _ _
+    (c .before .before .before .before .before .before .before .rule3 .given .1)
+    (c .before .before .before .before .before .is-in5 .ensures)
+    (c .before .before .before .before .is-in6 .ensures)
+    (c .before .before .before .is-in7 .ensures)
+    (c .before .before .is-reckoned .ensures p f shows)
+    (c .before .is-in8 .ensures)
+    (c .is-reckoned2 .ensures p f shows)
 
 pub does-ask-spec : {M : Type 1} → statement M
 does-ask-spec =
@@ -68,7 +76,9 @@ does-ask-spec =
     is-in-requires-5
     is-in-requires-6
     is-in-requires-7
+    is-reckoned-requires
     is-in-requires-8
+    is-reckoned-requires-2
     returns
     returns-2
     returns-3)

@@ -31,11 +31,11 @@ enum-known-rule-3 c = search needs
 is-in-requires-6 : tie.Need-is-in-requires-6
 is-in-requires-6 c κs = search needs
 
-is-in-requires-7 : tie.Need-is-in-requires-7
-is-in-requires-7 c κs = search needs
+is-reckoned-requires : tie.Need-is-reckoned-requires
+is-reckoned-requires c κs = search needs
 
-is-in-requires-8 : tie.Need-is-in-requires-8
-is-in-requires-8 c κs = search needs
+is-reckoned-requires-2 : tie.Need-is-reckoned-requires-2
+is-reckoned-requires-2 c κs = search needs
 
 returns : tie.Need-returns
 returns c = λ p f shows.
@@ -57,8 +57,8 @@ returns-3 c = λ p f shows.
     conditional-forbids p f _ shows _ _ _ _ _ _ _ _
     (c .before .before .before .before .rule3 .given .1)
     (c .before .before .is-in6 .ensures)
-    (c .before .is-in7 .ensures)
-    (c .is-in8 .ensures)
+    (c .before .is-reckoned .ensures p f shows)
+    (c .is-reckoned2 .ensures p f shows)
 
 pub does-forbid-spec : {M : Type 1} → statement M
 does-forbid-spec =
@@ -73,8 +73,8 @@ does-forbid-spec =
     is-in-requires-5
     enum-known-rule-3
     is-in-requires-6
-    is-in-requires-7
-    is-in-requires-8
+    is-reckoned-requires
+    is-reckoned-requires-2
     returns
     returns-2
     returns-3)

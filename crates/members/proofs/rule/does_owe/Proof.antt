@@ -25,8 +25,14 @@ enum-known-rule-3 c = search needs
 is-in-requires-4 : tie.Need-is-in-requires-4
 is-in-requires-4 c κs = search needs
 
+is-reckoned-requires : tie.Need-is-reckoned-requires
+is-reckoned-requires c κs = search needs
+
 is-in-requires-5 : tie.Need-is-in-requires-5
 is-in-requires-5 c κs = search needs
+
+is-reckoned-requires-2 : tie.Need-is-reckoned-requires-2
+is-reckoned-requires-2 c κs = search needs
 
 is-in-requires-6 : tie.Need-is-in-requires-6
 is-in-requires-6 c κs = search needs
@@ -47,10 +53,12 @@ returns-2 c = λ p f shows.
 
 returns-3 : tie.Need-returns-3
 returns-3 c = λ p f shows.
-    conditional-owes p f _ shows _ _ _ _ _ _ _ _
-    (c .before .before .before .before .before .rule3 .given .1)
-    (c .before .before .before .is-in4 .ensures)
-    (c .before .before .is-in5 .ensures)
+    conditional-owes p f _ shows _ _ _ _ _ _ _ _ _ _
+    (c .before .before .before .before .before .before .before .rule3 .given .1)
+    (c .before .before .before .before .before .is-in4 .ensures)
+    (c .before .before .before .before .is-reckoned .ensures p f shows)
+    (c .before .before .before .is-in5 .ensures)
+    (c .before .before .is-reckoned2 .ensures p f shows)
     (c .before .is-in6 .ensures)
     (c .is-in7 .ensures)
 
@@ -65,7 +73,9 @@ does-owe-spec =
     is-in-requires-3
     enum-known-rule-3
     is-in-requires-4
+    is-reckoned-requires
     is-in-requires-5
+    is-reckoned-requires-2
     is-in-requires-6
     is-in-requires-7
     returns

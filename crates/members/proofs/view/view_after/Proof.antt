@@ -19,24 +19,29 @@ with-if-requires-2 c κs = tt
 without-requires-3 : tie.Need-without-requires-3
 without-requires-3 c κs = tt
 
+with-if-requires-3 : tie.Need-with-if-requires-3
+with-if-requires-3 c κs = tt
+
 returns : tie.Need-returns
 returns c p f lt shows =
-    let st = c .before .before .before .before .before in
+    let st = c .before .before .before .before .before .before in
     shows-after
     p
     f
     (st .args .event)
     lt
-    (c .before .before .before .before .with-if .result)
-    (c .before .before .before .before .with-if .ensures)
+    (c .before .before .before .before .before .with-if .result)
+    (c .before .before .before .before .before .with-if .ensures)
     (st .args .view)
     _
     shows
-    (c .before .before .before .without .ensures)
-    (c .before .before .without2 .ensures)
-    (c .before .with-if2 .ensures)
-    (c .without3 .ensures)
+    (c .before .before .before .before .without .ensures)
+    (c .before .before .before .without2 .ensures)
+    (c .before .before .with-if2 .ensures)
+    (c .before .without3 .ensures)
     refl
+    refl
+    (c .with-if3 .ensures)
 
 pub view-after-spec : {M : Type 1} → statement M
 view-after-spec =
@@ -47,4 +52,5 @@ view-after-spec =
     without-requires-2
     with-if-requires-2
     without-requires-3
+    with-if-requires-3
     returns)
