@@ -23,8 +23,8 @@ const TRANSPORT: u8 = 1;
 const CONSENT: u8 = 2;
 
 /// Where a state's bytes have how many lines there are; the attributes of events; the
-/// rules' kinds and their events; the fates of events; which rules are recorded as broken
-/// and which steps are closed; and the history.
+/// rules' kinds and their events; the fates of events; which steps are closed; and the
+/// history.
 const LINES: usize = 3;
 const ATTRIBUTES: usize = 20;
 const RULE_KIND: usize = 36;
@@ -166,14 +166,13 @@ fn name(event: u8) -> &'static str {
 /// comes) and 6 as consent's.
 fn open_plan(transport: u8, consent: u8) -> Result<State> {
     let sheet = [
-        [1, 0, 6],         // event 0, the family approves embalming: step 0; may wait or be refused
-        [1, 1, transport], // event 1, the transport firm reports: step 1
-        [1, 2, consent],   // event 2, the consent form comes in: step 2
+        1, 0, 6, // event 0, the family approves embalming: step 0; may wait or be refused
+        1, 1, transport, // event 1, the transport firm reports: step 1
+        1, 2, consent, // event 2, the consent form comes in: step 2
+        4, 0, 1, 2, // rule 0, conditional: if embalming and transport, then consent
+        5, // the end
     ];
-    // Rule 0, conditional: if embalming and transport, then consent; and the end.
-    Ok(State::open(
-        &[sheet.as_flattened(), &[4, 0, 1, 2, 5]].concat(),
-    )?)
+    Ok(State::open(&sheet)?)
 }
 
 /// Why this rule holds the event back, read from the rule, the attributes and the fates
@@ -379,10 +378,8 @@ fn try_earlier(out: &mut impl Write) -> Result<()> {
     if [checked, submitted, closed, previewed] != [12; 4] || bytes != stored {
         return Err("a state that an earlier version has stored is taken, or written".into());
     }
-    writeln!(
-        out,
-        "check {checked}, submit {submitted}, close step {closed}, preview {previewed}, left as it was"
-    )?;
+    let calls = format!("submit {submitted}, close step {closed}, preview {previewed}");
+    writeln!(out, "check {checked}, {calls}, left as it was")?;
     Ok(())
 }
 
