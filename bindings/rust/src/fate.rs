@@ -19,7 +19,28 @@ use std::fmt;
 pub enum Fate {
     /// It has not been handed in.
     Open,
-    /// It has been handed in and waits.
+    /// It has been handed in and waits: for another event that a rule has before it or asks
+    /// for with it. A conditional also asks ahead. Where one of its triggers can be neither
+    /// refused nor held, and its third event cannot be forced, the other trigger waits for
+    /// the third event while that one is open, and is refused once the third is refused or
+    /// has lapsed.
+    ///
+    /// ```
+    /// use sinewhopa::{Fate, State};
+    ///
+    /// // If 0 and 1, then 2; 1 can be neither refused nor held.
+    /// let mut state = State::open(&[1, 0, 6, 1, 1, 0, 1, 2, 6, 4, 0, 1, 2, 5])?;
+    /// assert_eq!(state.submit(0)?, Fate::Held); // 1 may come at any time
+    /// let mut without = state.clone();
+    /// assert_eq!(state.submit(2)?, Fate::Done);
+    /// assert_eq!(state.fate(0), Some(Fate::Done)); // done with it
+    ///
+    /// without.close_step(2)?; // 2 will not come any more
+    /// assert_eq!(without.fate(0), Some(Fate::Refused));
+    /// assert_eq!(without.submit(1)?, Fate::Done);
+    /// assert!(!without.is_broken(0));
+    /// # Ok::<(), Box<dyn std::error::Error>>(())
+    /// ```
     Held,
     /// It is done.
     Done,

@@ -172,7 +172,9 @@ pub enum CallFault {
     AlreadyClosed,
     /// 11: a step with events is not closed yet, so that nothing can be wound up.
     NotClosed,
-    /// 12: the bytes are not those of a state that hangs together.
+    /// 12: the bytes are not those of a state that hangs together. Some that an earlier version
+    /// of the library has stored are among them: see
+    /// [`State::from_bytes`](crate::State::from_bytes).
     Incoherent,
     /// 13: more entries than a batch may have.
     TooLong,

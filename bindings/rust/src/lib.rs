@@ -5,7 +5,8 @@
 //! after each call and go on from them after a restart. Replies that come together
 //! are handed in together, by [`State::submit_all`]. What an event would settle can be
 //! asked before it is handed in, by [`State::preview`]. Events that no office has reported
-//! and that the scheduler has brought about are [`Fate::Forced`]. The sheet that a
+//! and that the scheduler has brought about are [`Fate::Forced`]. An event may also have to
+//! wait ahead of a report that nobody can stop: [`Fate::Held`] says when. The sheet that a
 //! colleague is to start from is written by [`State::to_sheet`]. [`run`] makes a whole list
 //! of calls on a sheet in one go. What sheets and calls are, byte by byte, and what each
 //! call does is in the repository's README.

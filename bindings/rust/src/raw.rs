@@ -201,7 +201,9 @@ pub fn write_sheet(state: &[u8; STATE_LEN], out: &mut [u8]) -> (u8, usize) {
     (number, need)
 }
 
-/// Gives 0 where the bytes are those of a state that hangs together, else 12.
+/// Gives 0 where the bytes are those of a state that hangs together, else 12. Which states
+/// of earlier versions get 12 is said at
+/// [`State::from_bytes`](crate::State::from_bytes).
 pub fn check(state: &[u8; STATE_LEN]) -> u8 {
     // SAFETY: `state` has the bytes of a state, which are only read.
     unsafe { sinewhopa_check(state.as_ptr()) }

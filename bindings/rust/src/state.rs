@@ -177,7 +177,9 @@ impl State {
         Some(Fate::from_number(*fate))
     }
 
-    /// The events that wait, the lowest first.
+    /// The events that wait, the lowest first. [`Fate::Held`] says for what; which rule it
+    /// is can be read from the rules, the attributes and the fates in [`State::as_bytes`],
+    /// as the crate's `examples/waiting.rs` does.
     ///
     /// ```
     /// use sinewhopa::State;
@@ -251,7 +253,9 @@ impl State {
     }
 
     /// Whether the rule is recorded as broken; a rule that is not declared never is.
-    /// Only an event that may be neither held nor refused breaks a rule.
+    /// Only an event that may be neither held nor refused breaks a rule. From the first
+    /// state on, a conditional breaks only where its third event is forcible: where it is
+    /// not, the other trigger waits for it ([`Fate::Held`]).
     ///
     /// ```
     /// # use sinewhopa::State;
@@ -289,6 +293,30 @@ impl State {
     /// let bytes = stored.as_slice().try_into()?;
     /// assert_eq!(State::from_bytes(bytes)?, state);
     /// assert_eq!(State::from_bytes(&[0; 384]), Err(CallFault::Incoherent));
+    /// # Ok::<(), Box<dyn std::error::Error>>(())
+    /// ```
+    ///
+    /// What an earlier version of the library has stored is a state still, but for this:
+    /// versions before did not make a trigger of a conditional wait ahead of one that
+    /// cannot be stopped ([`Fate::Held`]). Where they have done or forced such a trigger,
+    /// with the other one open and the third event open or held, the bytes are turned down
+    /// now. A host opens that plan again, from its sheet, and makes its calls again. Where
+    /// the third event was refused or has lapsed since, the bytes are taken; the rule then
+    /// breaks should the other trigger be handed in.
+    ///
+    /// ```
+    /// use sinewhopa::{CallFault, Fate, State};
+    ///
+    /// // If 0 and 1, then 2; 1 can be neither refused nor held.
+    /// let sheet = [1, 0, 6, 1, 1, 0, 1, 2, 6, 4, 0, 1, 2, 5];
+    /// let mut stored = *State::open(&sheet)?.as_bytes();
+    /// stored[3] = 1; // one line, which says of event 0 ..
+    /// stored[100] = Fate::Done.number(); // .. as its fate does ..
+    /// stored[156] = Fate::Done.number(); // .. that it is done
+    /// assert_eq!(State::from_bytes(&stored), Err(CallFault::Incoherent));
+    ///
+    /// let mut state = State::open(&sheet)?; // opened again: now it waits for 2
+    /// assert_eq!(state.submit(0)?, Fate::Held);
     /// # Ok::<(), Box<dyn std::error::Error>>(())
     /// ```
     pub fn from_bytes(bytes: &[u8; STATE_LEN]) -> Result<State, CallFault> {

@@ -1,5 +1,5 @@
-//! The examples of a batch, a preview, a sheet and forced events print what the same hosts
-//! in C print.
+//! The examples of a batch, a preview, a sheet, forced events and an event that waits print
+//! what the same hosts in C print.
 
 #[allow(dead_code)]
 #[path = "../examples/batch.rs"]
@@ -13,6 +13,9 @@ mod preview;
 #[allow(dead_code)]
 #[path = "../examples/sheet.rs"]
 mod sheet;
+#[allow(dead_code)]
+#[path = "../examples/waiting.rs"]
+mod waiting;
 
 use std::error::Error;
 
@@ -45,4 +48,10 @@ fn what_was_forced_is_told_as_in_c() {
 fn a_sheet_passed_on_is_told_as_in_c() {
     let in_c = include_str!("../../../examples/sheet/stdout");
     assert_eq!(told(|out| sheet::run(out)), in_c);
+}
+
+#[test]
+fn what_waits_is_told_as_in_c() {
+    let in_c = include_str!("../../../examples/waiting/stdout");
+    assert_eq!(told(|out| waiting::run(out)), in_c);
 }
