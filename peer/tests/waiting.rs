@@ -331,6 +331,75 @@ fn neighbours_of_the_case() {
     }
 }
 
+/// Sheets with more about them, each with its calls and the lines after them.
+const FURTHER: [(&[u8], &[Call], &str); 7] = [
+    // The goal is itself one that waits, for 3: the three are done in one order.
+    (
+        &[
+            1, 0, 6, 1, 1, 0, 1, 2, 6, 1, 3, 6, 4, 0, 1, 2, 4, 1, 2, 3, 5,
+        ],
+        &[Submit(0), Submit(2), Submit(3)],
+        "0 done 2 done 3 done",
+    ),
+    // Without 3 the goal is refused, and so are both.
+    (
+        &[
+            1, 0, 6, 1, 1, 0, 1, 2, 6, 1, 3, 6, 4, 0, 1, 2, 4, 1, 2, 3, 5,
+        ],
+        &[Submit(0), Submit(2), CloseStep(3), Submit(1)],
+        "3 lapsed 2 refused 0 refused 1 done",
+    ),
+    // It needs the trigger, which is forced once the goal is there.
+    (
+        &[1, 0, 6, 1, 1, 1, 1, 2, 6, 4, 0, 1, 2, 3, 0, 1, 5],
+        &[Submit(0), Submit(2)],
+        "0 done 1 forced 2 done",
+    ),
+    // It can't wait, so it is refused; with the goal done before it need not.
+    (
+        &[1, 0, 2, 1, 1, 0, 1, 2, 6, 4, 1, 0, 2, 5],
+        &[Submit(0), Submit(2), Submit(1)],
+        "0 refused 2 done 1 done",
+    ),
+    (
+        &[1, 0, 2, 1, 1, 0, 1, 2, 6, 4, 1, 0, 2, 5],
+        &[Submit(2), Submit(0), Submit(1)],
+        "2 done 0 done 1 done",
+    ),
+    // One closing takes the trigger and the goal.
+    (
+        &[1, 0, 6, 1, 1, 0, 1, 1, 6, 4, 0, 1, 2, 5],
+        &[Submit(0), CloseStep(1)],
+        "1 lapsed 2 lapsed 0 done",
+    ),
+    // Two triggers: the lapse of one does not free it.
+    (
+        &[
+            1, 0, 6, 1, 1, 0, 1, 2, 0, 1, 3, 6, 4, 0, 1, 3, 4, 2, 0, 3, 5,
+        ],
+        &[Submit(0), CloseStep(1), CloseStep(3), CloseStep(2)],
+        "1 lapsed 3 lapsed 0 refused 2 lapsed",
+    ),
+];
+
+#[test]
+fn further_sheets_by_hand() {
+    for (sheet, calls, lines) in FURTHER {
+        let mut image = first(sheet);
+        for call in calls {
+            image = agreed(&image, *call).image;
+            assert_eq!(kept(&image), Ok(()));
+        }
+        for run in [library::run, second::run] {
+            let report = String::from_utf8(run(sheet, &bytes(calls))).expect("plain text");
+            let shown: Vec<&str> = report.split_whitespace().skip(4).collect();
+            let ending = ["held", "0", "broken", "0", "refused", "calls", "0"];
+            let expected: Vec<&str> = lines.split(' ').chain(ending).collect();
+            assert_eq!(shown, expected, "{}", hex(sheet));
+        }
+    }
+}
+
 /// Makes a call in the library and in the peer, which have to agree.
 fn agreed(image: &Image, call: Call) -> Outcome {
     let mut peer = scheduler(image).expect("a state");

@@ -10,11 +10,12 @@
 //! Whoever compares may bring a scheduler that knows nothing of S-6. Calls that it would
 //! have come to otherwise are told apart then.
 //!
-//! `sides` reads conditionals off the bytes, `met` counts, and `damage` has fates that no
-//! list leads to.
+//! `sides` reads conditionals off the bytes, `scenes` says what a call comes to round one,
+//! `met` counts, and `damage` has fates that no list leads to.
 
 pub mod damage;
 mod met;
+mod scenes;
 mod sides;
 
 pub use met::Tally;
@@ -36,7 +37,7 @@ use crate::peer::calls::Call;
 use crate::peer::sheet::MOST_EVENTS;
 use crate::peer::Scheduler;
 use crate::random::{waiting_calls, waiting_sheet, Random};
-use met::{Otherwise, Step};
+use scenes::{Otherwise, Step};
 use std::fmt;
 
 /// The cases of the test.
