@@ -22,15 +22,15 @@ use peer::library::raw::{self, Entry};
 use peer::library::{self, LONGEST_REPORT, LONGEST_SHEET};
 use peer::peer::calls::Call;
 use peer::peer::report::report;
-use peer::peer::{self as second, trace};
+use peer::peer::{self as second, trace, Scheduler, Sheet};
 use peer::random::{waiting_calls, waiting_sheet, Random};
 use plain::{Beside, Plain};
 use Call::{CloseStep, Finish, Submit};
 
 /// Everything that the comparison is about has to be met this often, and this many cases
 /// decided by S-6.
-const LEAST: usize = 150;
-const LEAST_DECIDED: usize = 8_000;
+const LEAST: usize = 200;
+const LEAST_DECIDED: usize = 12_000;
 /// Trying every order takes too long among more events than these.
 const MOST: usize = 6;
 const FILL: u8 = 0xa5;
@@ -329,6 +329,52 @@ fn neighbours_of_the_case() {
             }
         }
     }
+}
+
+/// Every sheet of three events and one conditional, in any steps, and on it every sequence
+/// of the hand-ins and closings.
+#[test]
+fn every_sequence_on_every_small_sheet() {
+    let sums = [0, 1, 2, 3, 6, 7];
+    let mut made = 0;
+    for steps in [[0, 1, 2], [0, 1, 1], [0, 1, 0], [0, 0, 1], [0, 0, 0]] {
+        let mut calls = vec![Submit(0), Submit(1), Submit(2)];
+        calls.extend((0..=2).filter(|step| steps.contains(step)).map(CloseStep));
+        for place in 0..sums.len().pow(3) {
+            let sum = |of: u32| sums[place / sums.len().pow(of) % sums.len()];
+            let mut sheet = Vec::new();
+            for (event, step) in (0..).zip(steps) {
+                sheet.extend([1, step, sum(event)]);
+            }
+            sheet.extend([4, 0, 1, 2, 5]);
+            if let Ok(read) = Sheet::read(&sheet) {
+                made += every_sequence(&first(&sheet), &Scheduler::new(read), &calls);
+            }
+        }
+    }
+    println!("{made} calls");
+    assert!(made > 800_000, "{made} calls");
+}
+
+/// Makes each of the calls, and after it the others in every sequence, then winds up. The
+/// library agrees with the peer and keeps what S-6 promises. Gives how many were made.
+fn every_sequence(image: &Image, peer: &Scheduler, calls: &[Call]) -> usize {
+    let next = if calls.is_empty() { &[Finish] } else { calls };
+    let mut made = 0;
+    for call in next {
+        let mut peer = peer.clone();
+        let outcome = Outcome::of_library(LIBRARY.call, image, *call);
+        let own = Outcome::of_peer(&mut peer, image, *call);
+        let right = outcome.same(&own).and_then(|()| kept(&outcome.image));
+        assert_eq!(right, Ok(()), "{call:?} on {}", hex(image));
+        let rest = calls.iter().copied().filter(|other| other != call);
+        let rest: Vec<Call> = rest.collect();
+        made += 1;
+        if *call != Finish {
+            made += every_sequence(&outcome.image, &peer, &rest);
+        }
+    }
+    made
 }
 
 /// Sheets with more about them, each with its calls and the lines after them.

@@ -17,7 +17,7 @@ use crate::peer::calls::Call;
 use crate::random::{waiting_calls, waiting_sheet, Random};
 
 /// The damaged states of the test.
-pub const COUNT: usize = 20_000;
+pub const COUNT: usize = 30_000;
 /// The states with a rule that is marked as broken, and with a fate changed elsewhere.
 const BROKEN_PERCENT: u64 = 10;
 const ELSEWHERE_PERCENT: u64 = 20;

@@ -41,7 +41,7 @@ use scenes::{Otherwise, Step};
 use std::fmt;
 
 /// The cases of the test.
-pub const COUNT: usize = 40_000;
+pub const COUNT: usize = 60_000;
 /// The cases that start with a state that is brought.
 const BROUGHT_PERCENT: u64 = 15;
 /// The lists that end with a byte that is no call.
