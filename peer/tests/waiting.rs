@@ -564,6 +564,31 @@ fn a_rule_may_break_as_brought() {
     }
 }
 
+/// What is read off the bytes can be found wanting: a broken conditional is right only with
+/// a forcible goal and a trigger, or another, that is not rejectable.
+#[test]
+fn the_promises_can_be_broken() {
+    for (trigger, goal, right) in [(0, 6, false), (0, 7, true), (2, 7, false), (1, 3, true)] {
+        for as_a in [false, true] {
+            let mut image = first(&sheet(trigger, goal, as_a));
+            assert_eq!(kept(&image), Ok(()));
+            image[BROKEN] = 1;
+            assert_eq!(kept(&image).is_ok(), right, "{}", hex(&image));
+        }
+    }
+    for (fate, right) in [
+        (OPEN, false),
+        (HELD, false),
+        (REFUSED, false),
+        (LAPSED, false),
+        (DONE, true),
+        (FORCED, true),
+    ] {
+        assert_eq!(kept(&beside(fate, false)).is_ok(), right);
+        assert_eq!(kept(&beside(fate, true)).is_ok(), right);
+    }
+}
+
 /// The preview, the batch and the writing of the case.
 #[test]
 fn the_case_in_other_functions() {

@@ -24,11 +24,13 @@ pub struct Tally {
     /// The scenes, with the trigger as a and as b.
     pub scenes: [[usize; 2]; SCENES.len()],
     /// Calls and cases that come out otherwise without S-6; calls with the trigger of a
-    /// live conditional as a, and as b; calls for which that was not found out.
+    /// live conditional as a, and as b; calls for which that was not found out, and for
+    /// which no one was asked.
     pub decided_calls: usize,
     pub decided_cases: usize,
     pub decided_places: [usize; 2],
     pub unknown: usize,
+    pub not_asked: usize,
     /// Sheets with several conditionals that S-6 is about; with a forcible trigger.
     pub several: usize,
     pub forcible_trigger: usize,
@@ -50,7 +52,11 @@ impl Tally {
         }
         let decided = step.otherwise.is_decided(step.after);
         self.decided_calls += usize::from(decided);
-        self.unknown += usize::from(matches!(step.otherwise, Otherwise::Unknown));
+        match step.otherwise {
+            Otherwise::Unknown => self.unknown += 1,
+            Otherwise::NotAsked => self.not_asked += 1,
+            Otherwise::Same | Otherwise::Known(_) => {}
+        }
         let sides = sides(step.before);
         for (place, met) in self.decided_places.iter_mut().enumerate() {
             let mut live = sides.iter().filter(|side| side.is_live(step.before));
@@ -126,7 +132,11 @@ impl fmt::Display for Tally {
         writeln!(out, "{cases} cases, {calls} calls")?;
         let (cases, calls) = (self.decided_cases, self.decided_calls);
         writeln!(out, "decided by S-6: {cases} cases, {calls} calls")?;
-        writeln!(out, "not found out: {} calls", self.unknown)?;
+        let (unknown, not_asked) = (self.unknown, self.not_asked);
+        writeln!(
+            out,
+            "not found out: {unknown} calls, not asked: {not_asked}"
+        )?;
         for (name, met) in self.counts() {
             writeln!(out, "{name}: {met}")?;
         }
