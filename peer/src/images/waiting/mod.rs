@@ -178,7 +178,7 @@ impl Case {
         let calls = self.bytes();
         let [library, peer] = [library.run, second::run].map(|run| run(&self.sheet, &calls));
         if library != peer {
-            let [library, peer] = [library, peer].map(|report| String::from_utf8(report));
+            let [library, peer] = [library, peer].map(String::from_utf8);
             return Err(format!("the report: library {library:?}\npeer {peer:?}"));
         }
         tally.lists += 1;
@@ -217,7 +217,7 @@ fn otherwise(without: Option<Without>, image: &Image, call: Call) -> Otherwise {
         return Otherwise::Same;
     }
     match without(image, call) {
-        Some(after) => Otherwise::Known(after),
+        Some(after) => Otherwise::Known(Box::new(after)),
         None => Otherwise::Unknown,
     }
 }

@@ -76,7 +76,7 @@ pub struct Step<'a> {
 }
 
 /// The call's result without S-6.
-#[derive(Clone, Copy, Debug)]
+#[derive(Clone, Debug)]
 pub enum Otherwise {
     /// No one was asked.
     NotAsked,
@@ -84,13 +84,13 @@ pub enum Otherwise {
     Unknown,
     /// S-6 says nothing of these bytes.
     Same,
-    Known(Image),
+    Known(Box<Image>),
 }
 
 impl Otherwise {
     /// Whether S-6 has decided the call, which led to these bytes.
     pub fn is_decided(&self, after: &Image) -> bool {
-        matches!(self, Otherwise::Known(image) if image != after)
+        matches!(self, Otherwise::Known(image) if **image != *after)
     }
 
     /// Whether it has decided this event's fate, as far as anyone was asked.
