@@ -1,6 +1,7 @@
-//! Cases A to L of document 01, with what S-5 shows in case D, and two of sixteen
-//! events that can all stand in an order. The reports are worked out by hand from the document's words. Where
-//! a case names no steps, event n is in step n (in the last two, n modulo 8).
+//! Cases A to L of document 01, with what S-5 shows in case D, two of sixteen events
+//! that can all stand in an order, and one of S-6. The reports are worked out by hand from
+//! the documents' words. Where a case names no steps, event n is in step n (in those of
+//! sixteen events, n modulo 8).
 
 pub struct Case {
     /// Also the folder below `examples`.
@@ -172,5 +173,13 @@ pub const CASES: &[Case] = &[
                  13 refused\n12 refused\n11 refused\n10 refused\n9 refused\n\
                  8 refused\n7 refused\n6 refused\n5 refused\n4 refused\n3 refused\n\
                  2 refused\n1 refused\nheld 0\nbroken 0\nrefused calls 0\n",
+    },
+    // Embalming, transport and consent: 0 waits for 2, as nothing can stop 1.
+    Case {
+        name: "consent",
+        sheet: &[1, 0, 6, 1, 1, 0, 1, 2, 6, 4, 0, 1, 2, 5],
+        calls: &[16, 0, 17, 2, 16, 1],
+        report: "events 3 rules 1\n2 lapsed\n0 refused\n1 done\n\
+                 held 0\nbroken 0\nrefused calls 0\n",
     },
 ];

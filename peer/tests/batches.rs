@@ -45,7 +45,7 @@ fn the_comparison_of_batches_can_fail() {
     };
     let hasty: Batch = |image, entries| {
         let number = raw::submit_all(image, entries);
-        image[SPARE] = 0;
+        image[SPARE..].fill(0);
         number
     };
     let answers_done: Batch = |image, entries| {

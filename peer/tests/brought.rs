@@ -1,9 +1,12 @@
 //! States that a caller brings, to which no list may lead: the library's calls on
-//! their bytes against a plain reading of document 01 and of S-5 that tries every order.
+//! their bytes against a plain reading of document 01, of S-5 and of S-6 that tries every
+//! order.
 
+mod on_images;
 #[allow(dead_code)]
 mod plain;
 
+use on_images::{make, plain_of, put};
 use peer::compare::{hex, SEED};
 use peer::images::brought::brought;
 use peer::images::damaged::LIBRARY;
@@ -12,65 +15,12 @@ use peer::images::marks::{has_forced, unmarked, FORCED};
 use peer::library::raw;
 use peer::peer::calls::Call;
 use peer::random::Random;
-use plain::{Fate, Plain};
 
 const STATES: usize = 30_000;
 const CALLS: usize = 4;
 /// Trying every order takes too long among more events than these.
 const MOST: usize = 6;
 const LEAST: usize = 150;
-
-const FATES: [Fate; 6] = [
-    Fate::Open,
-    Fate::Held,
-    Fate::Done,
-    Fate::Refused,
-    Fate::Lapsed,
-    Fate::Forced,
-];
-
-fn plain_of(sheet: &[u8], image: &Image) -> Plain {
-    let mut plain = Plain::read(sheet);
-    let fate = |number: u8| FATES[usize::from(number)];
-    for (event, own) in plain.fates.iter_mut().enumerate() {
-        *own = fate(image[FATE + event]);
-    }
-    for (rule, mark) in plain.broken.iter_mut().enumerate() {
-        *mark = image[BROKEN + rule] == 1;
-    }
-    plain.closed = std::array::from_fn(|step| image[CLOSED + step] == 1);
-    let lines = 0..usize::from(image[LINES]);
-    plain.history = lines
-        .map(|line| (image[LINE_EVENT + line], fate(image[LINE_FATE + line])))
-        .collect();
-    plain
-}
-
-/// The bytes after a call, over those before it.
-fn put(plain: &Plain, image: &mut Image) {
-    for (event, fate) in plain.fates.iter().enumerate() {
-        image[FATE + event] = *fate as u8;
-    }
-    for (rule, mark) in plain.broken.iter().enumerate() {
-        image[BROKEN + rule] = u8::from(*mark);
-    }
-    for (step, mark) in plain.closed.iter().enumerate() {
-        image[CLOSED + step] = u8::from(*mark);
-    }
-    image[LINES] = plain.history.len() as u8;
-    for (line, (event, fate)) in plain.history.iter().enumerate() {
-        image[LINE_EVENT + line] = *event;
-        image[LINE_FATE + line] = *fate as u8;
-    }
-}
-
-fn make(plain: &mut Plain, call: Call) {
-    match call {
-        Call::Submit(event) => plain.submit(event),
-        Call::CloseStep(step) => plain.close_step(step),
-        Call::Finish => plain.finish(),
-    }
-}
 
 fn any_call(random: &mut Random, image: &Image) -> Call {
     match random.below(8) {

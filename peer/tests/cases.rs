@@ -1,4 +1,4 @@
-//! Cases A to L of document 01, and the two cases of sixteen events.
+//! Cases A to L of document 01, the two cases of sixteen events, and that of S-6.
 
 use peer::cases::CASES;
 use peer::{library, peer as second};

@@ -142,7 +142,7 @@ fn the_comparison_of_damage_can_fail() {
     let hasty = Functions {
         call: |image, call| {
             let number = (LIBRARY.call)(image, call);
-            image[SPARE] = 0;
+            image[SPARE..].fill(0);
             number
         },
         ..LIBRARY

@@ -1,6 +1,7 @@
-//! The peer against a plain reading of document 01 and of S-5 that tries every order.
-//! No library is needed for it.
+//! The peer against a plain reading of document 01, of S-5 and of S-6 that tries every
+//! order. No library is needed for it.
 
+#[allow(dead_code)]
 mod plain;
 
 use peer::compare::{pair, SEED};
@@ -8,7 +9,7 @@ use peer::peer::report::report;
 use peer::peer::search::Search;
 use peer::peer::set::{has, members, one, Set};
 use peer::peer::{trace, Sheet, State};
-use peer::random::Random;
+use peer::random::{waiting_sheet, Random};
 use plain::{Fate, Plain};
 
 const PAIRS: usize = 20_000;
@@ -81,9 +82,14 @@ struct Both {
     plain: Plain,
 }
 
+/// What the states are of.
+type Sheets = fn(&mut Random) -> Vec<u8>;
+const ANY: Sheets = |random| pair(random).0;
+const WAITING: Sheets = |random| waiting_sheet(random).made.bytes;
+
 /// A random state of a random sheet, if that is admitted.
-fn any_state(random: &mut Random, most: u32) -> Option<Both> {
-    let (bytes, _) = pair(random);
+fn any_state(random: &mut Random, sheets: Sheets, most: u32) -> Option<Both> {
+    let bytes = sheets(random);
     let sheet = Sheet::read(&bytes).ok()?;
     let fates = any_fates(random, &sheet, most);
     let rules = 0..sheet.rules.len();
@@ -146,13 +152,13 @@ fn agree_on_state(both: &mut Both, search: &mut Search, met: &mut Met) {
     assert_eq!(chosen(state.held), first, "{:02x?} {state:x?}", both.bytes);
 }
 
-fn agree_on_states(seed: u64, count: usize, least: u32, most: u32) -> Met {
+fn agree_on_states(seed: u64, sheets: Sheets, count: usize, least: u32, most: u32) -> Met {
     let mut random = Random::new(seed);
     let mut search = Search::default();
     let mut met = Met::default();
     let mut compared = 0;
     while compared < count {
-        let Some(mut both) = any_state(&mut random, most) else {
+        let Some(mut both) = any_state(&mut random, sheets, most) else {
             continue;
         };
         let forcible = both.state.open(&both.sheet) & both.sheet.forcible;
@@ -166,7 +172,7 @@ fn agree_on_states(seed: u64, count: usize, least: u32, most: u32) -> Met {
 
 #[test]
 fn search_finds_the_first_order_of_any_state() {
-    let met = agree_on_states(SEED ^ 0x57a7e, STATES, 0, MOST);
+    let met = agree_on_states(SEED ^ 0x57a7e, ANY, STATES, 0, MOST);
     println!("{met:?}");
     assert!(met[0][1..].iter().all(|count| *count > 100), "{met:?}");
     assert!(met[1][2..].iter().all(|count| *count > 100), "{met:?}");
@@ -174,8 +180,17 @@ fn search_finds_the_first_order_of_any_state() {
 
 #[test]
 fn search_finds_the_first_order_of_wide_states() {
-    let met = agree_on_states(SEED ^ 0x31de, WIDE_STATES, MOST + 1, MOST_WIDE);
+    let met = agree_on_states(SEED ^ 0x31de, ANY, WIDE_STATES, MOST + 1, MOST_WIDE);
     println!("{met:?}");
+}
+
+/// Where nothing can stop a conditional's a or b; most orders are short then.
+#[test]
+fn search_finds_the_first_order_beside_open_events() {
+    let met = agree_on_states(SEED ^ 0x3a17, WAITING, STATES, 0, MOST - 2);
+    println!("{met:?}");
+    assert!(met[0][1..4].iter().all(|count| *count > 100), "{met:?}");
+    assert!(met[1][2..4].iter().all(|count| *count > 100), "{met:?}");
 }
 
 /// What S-4 rests on, tried out: the shortest viable orders for an event are
@@ -185,7 +200,8 @@ fn shortest_orders_have_the_same_events() {
     let mut random = Random::new(SEED ^ 0x5a3e);
     let mut several = 0;
     for _ in 0..STATES {
-        let Some(mut both) = any_state(&mut random, MOST - 1) else {
+        let sheets = random.pick(&[ANY, ANY, WAITING]);
+        let Some(mut both) = any_state(&mut random, sheets, MOST - 1) else {
             continue;
         };
         for event in members(both.state.held) {

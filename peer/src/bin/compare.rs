@@ -1,10 +1,11 @@
 //! `compare SEED COUNT`: the library against the peer on random pairs, as lists and
 //! as single calls on a kept state; then damaged copies of as many states; then as many
-//! batches, as many previews, as many sheets written out, and as many lists with and
-//! without the mark of a forced event.
+//! batches, as many previews, as many sheets written out, as many lists with and without
+//! the mark of a forced event, and as many lists and damaged states with conditionals of
+//! which nothing can stop a or b.
 
 use peer::compare::{compare, COUNT, SEED};
-use peer::images::{batches, damaged, forced, previews, sheets, single};
+use peer::images::{batches, damaged, forced, previews, sheets, single, waiting};
 use peer::library::{self, raw, State};
 use std::process::ExitCode;
 
@@ -24,6 +25,10 @@ fn run(seed: u64, count: usize) -> Result<(), String> {
     println!("sheets written out: {sheets:#?}");
     let forced = forced::compare(seed, count, forced::LIBRARY)?;
     println!("forced events: {forced:#?}");
+    let lists = waiting::compare(seed, count, &waiting::LIBRARY, None)?;
+    println!("events that wait: {lists}");
+    let damage = waiting::damage::compare(seed, count, &damaged::LIBRARY)?;
+    println!("damaged states of events that wait: {damage:#?}");
     println!("{count} pairs, 0 differences");
     Ok(())
 }

@@ -119,7 +119,8 @@ fn any_change(random: &mut Random, image: &Image) -> (usize, u8) {
 }
 
 impl Functions {
-    fn treat(
+    /// Asks that bytes with these places changed are treated as number 12 has it.
+    pub fn treat(
         &self,
         random: &mut Random,
         image: &Image,

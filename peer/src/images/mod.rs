@@ -8,7 +8,8 @@
 //! states that no list may lead to, and `runs` goes on with states of all these sorts;
 //! on them `batches` compares after every batch, `previews` and `sheets` after every
 //! call. `marks` takes the mark of a forced event off and puts it on, and `forced` makes
-//! the same calls with the mark and without.
+//! the same calls with the mark and without. `waiting` has conditionals of which nothing
+//! can stop a or b.
 
 pub mod batches;
 pub mod brought;
@@ -21,3 +22,4 @@ pub mod runs;
 pub mod sheets;
 pub mod single;
 pub mod sound;
+pub mod waiting;

@@ -1,7 +1,8 @@
 //! Single calls, compared after every one: the answer, all bytes of the state,
-//! and what its readers show.
+//! and what its readers show. What S-6 promises is read off the bytes as well.
 
 use super::layout::{self, number, Image, BEYOND};
+use super::waiting::kept;
 use crate::compare::{hex, missing, numbered};
 use crate::library::{raw, Fate, State};
 use crate::peer::calls::{apply, Call};
@@ -179,7 +180,8 @@ impl<H: Host> Both<H> {
             self.library.shown(),
             peer_shows(&self.peer),
         )?;
-        same("number 12", raw::check(self.library.image()), 0)
+        same("number 12", raw::check(self.library.image()), 0)?;
+        kept(self.library.image())
     }
 
     fn same_report(self, answers: Vec<Answer>, tally: &mut Tally) -> Result<(), String> {

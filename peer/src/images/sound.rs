@@ -3,6 +3,7 @@
 
 use super::layout::*;
 
+const OPEN: u8 = 0;
 const HELD: u8 = 1;
 const DONE: u8 = 2;
 const FORCED: u8 = 5;
@@ -62,7 +63,7 @@ fn event_fits(image: &Image, event: usize) -> bool {
     let declared = step <= 7 && sum <= 7 && (sum & DELAYABLE == 0 || sum & REJECTABLE != 0);
     declared
         && match fate {
-            0 => own.is_empty() && image[CLOSED + usize::from(step)] == 0,
+            OPEN => own.is_empty() && image[CLOSED + usize::from(step)] == 0,
             HELD => own.is_empty() && sum & DELAYABLE != 0,
             _ => own == [fate],
         }
@@ -94,13 +95,17 @@ fn rule_fits(image: &Image, rule: usize) -> bool {
             None => is(triggers[1], DELAYABLE) || is(triggers[0], REJECTABLE),
             Some(goal) => is(goal, FORCIBLE) || triggers.iter().any(|event| is(*event, REJECTABLE)),
         }
-        && (image[BROKEN + rule] == 1 || is_kept(image, &triggers, goal))
+        && (image[BROKEN + rule] == 1
+            || (is_kept(image, &triggers, goal) && !is_waiting(image, &triggers, goal)))
 }
 
-/// Whether a rule that stands holds of the history and owes nothing. Forced counts as
-/// done.
+fn is_done(fate: u8) -> bool {
+    [DONE, FORCED].contains(&fate)
+}
+
+/// Whether a rule that stands holds of the history and owes nothing but what a
+/// conditional owes beside an open event. Forced counts as done.
 fn is_kept(image: &Image, triggers: &[u8], goal: Option<u8>) -> bool {
-    let is_done = |fate| [DONE, FORCED].contains(&fate);
     let place = |event| lines(image).position(|line| line.0 == event && is_done(line.1));
     match goal {
         None => match (place(triggers[0]), place(triggers[1])) {
@@ -109,4 +114,20 @@ fn is_kept(image: &Image, triggers: &[u8], goal: Option<u8>) -> bool {
         },
         Some(goal) => triggers.iter().any(|event| place(*event).is_none()) || place(goal).is_some(),
     }
+}
+
+/// Whether a conditional owes its third event for one of the others that is done, as the
+/// one left is open and nothing can stop it, nor force the third (S-6).
+fn is_waiting(image: &Image, triggers: &[u8], goal: Option<u8>) -> bool {
+    let ([a, b], Some(goal)) = (triggers, goal) else {
+        return false;
+    };
+    let fate = |event: u8| image[FATE + usize::from(event)];
+    let sum = |event: u8| image[ATTRIBUTES + usize::from(event)];
+    let beside = |other: u8, left: u8| {
+        let unstoppable = sum(left) & (REJECTABLE | DELAYABLE) == 0;
+        is_done(fate(other)) && fate(left) == OPEN && unstoppable
+    };
+    let unsettled = [OPEN, HELD].contains(&fate(goal));
+    unsettled && sum(goal) & FORCIBLE == 0 && (beside(*a, *b) || beside(*b, *a))
 }

@@ -4,8 +4,22 @@
 //! are done, the goal has to be done too. A need has one trigger, so "the other
 //! triggers are done" holds of it always; a conditional has two, so doing
 //! either is forbidden only when the other is done already.
+//!
+//! An open trigger that nothing can stop is as good as done for the other one,
+//! if the goal can't be forced either (S-6): whatever is done beside it has to
+//! have the goal. That ends when the trigger is settled, or held as it is handed
+//! in.
 
 use super::set::{has, one, within, Set};
+
+/// How the events stand, as far as rules ask. Those in none of the sets are held.
+#[derive(Clone, Copy, Debug)]
+pub struct Standing {
+    pub open: Set,
+    pub done: Set,
+    /// Refused or lapsed.
+    pub failed: Set,
+}
 
 #[derive(Clone, Copy, Debug, PartialEq, Eq)]
 pub enum Rule {
@@ -15,6 +29,10 @@ pub enum Rule {
     Follow {
         triggers: Set,
         goal: u8,
+        /// Of a goal that can't be forced, the trigger that is neither rejectable
+        /// nor delayable. There is one at most, as the other makes the rule
+        /// enforceable; a need has none.
+        unstoppable: Set,
         /// The trigger that the sheet names first. What the rule says does not
         /// depend on it, what the sheet says does.
         named_first: u8,
@@ -23,11 +41,19 @@ pub enum Rule {
 
 impl Rule {
     /// Forbids doing `event` for good: every ground but waiting.
-    pub fn bars(&self, event: u8, done: Set, failed: Set) -> bool {
+    pub fn bars(&self, event: u8, at: Standing) -> bool {
         match *self {
-            Rule::Order { first, second, .. } => event == first && has(done, second),
-            Rule::Follow { triggers, goal, .. } => {
-                has(triggers, event) && within(triggers & !one(event), done) && has(failed, goal)
+            Rule::Order { first, second, .. } => event == first && has(at.done, second),
+            Rule::Follow {
+                triggers,
+                goal,
+                unstoppable,
+                ..
+            } => {
+                let counted = at.done | (unstoppable & at.open);
+                has(triggers, event)
+                    && within(triggers & !one(event), counted)
+                    && has(at.failed, goal)
             }
         }
     }
@@ -35,26 +61,32 @@ impl Rule {
     /// Forbids doing `event` for now: the second of an order while the first is
     /// unsettled. A held first is not settled. (The search works this ground in
     /// for itself; an event done alone is not delayable and never waits.)
-    pub fn delays(&self, event: u8, done: Set, failed: Set) -> bool {
+    pub fn delays(&self, event: u8, at: Standing) -> bool {
         match *self {
             Rule::Order {
                 first,
                 second,
                 waits,
-            } => waits && event == second && !has(done | failed, first),
+            } => waits && event == second && !has(at.done | at.failed, first),
             Rule::Follow { .. } => false,
         }
     }
 
-    pub fn forbids(&self, event: u8, done: Set, failed: Set) -> bool {
-        self.bars(event, done, failed) || self.delays(event, done, failed)
+    pub fn forbids(&self, event: u8, at: Standing) -> bool {
+        self.bars(event, at) || self.delays(event, at)
     }
 
-    pub fn owes(&self, done: Set, failed: Set) -> bool {
+    pub fn owes(&self, at: Standing) -> bool {
         match *self {
             Rule::Order { .. } => false,
-            Rule::Follow { triggers, goal, .. } => {
-                within(triggers, done) && !has(done | failed, goal)
+            Rule::Follow {
+                triggers,
+                goal,
+                unstoppable,
+                ..
+            } => {
+                let counted = at.done | (unstoppable & at.open);
+                within(triggers, counted) && !has(at.done | at.failed, goal)
             }
         }
     }

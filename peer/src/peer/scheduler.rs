@@ -1,5 +1,6 @@
 //! The state of a sheet under way and the three calls.
 
+use super::rules::{Rule, Standing};
 use super::search::{Order, Search};
 use super::set::{has, lowest, members, one, Set};
 use super::sheet::Sheet;
@@ -80,6 +81,14 @@ impl State {
 
     pub fn open(&self, sheet: &Sheet) -> Set {
         sheet.all() & !(self.held | self.done | self.failed())
+    }
+
+    pub fn standing(&self, sheet: &Sheet) -> Standing {
+        Standing {
+            open: self.open(sheet),
+            done: self.done,
+            failed: self.failed(),
+        }
     }
 
     pub fn fate(&self, event: u8) -> Fate {
@@ -282,9 +291,9 @@ impl Scheduler {
     }
 
     fn lowest_barred(&self) -> Option<u8> {
-        let (done, failed) = (self.state.done, self.state.failed());
+        let standing = self.state.standing(&self.sheet);
         members(self.state.held)
-            .find(|&event| self.rules_that(|rule| rule.bars(event, done, failed)) != 0)
+            .find(|&event| self.rules_that(|rule| rule.bars(event, standing)) != 0)
     }
 
     /// Does an order and writes its events as it says that they were. The event that
@@ -302,16 +311,16 @@ impl Scheduler {
     /// Records each rule that forbids the event now or owes right after it,
     /// before anything else is settled.
     fn do_alone(&mut self, event: u8) {
-        let (done, failed) = (self.state.done, self.state.failed());
-        let forbid = self.rules_that(|rule| rule.forbids(event, done, failed));
+        let before = self.state.standing(&self.sheet);
+        let forbid = self.rules_that(|rule| rule.forbids(event, before));
         self.enter(event, Fate::Done, Cause::Alone);
-        let done = self.state.done;
-        let owe = self.rules_that(|rule| rule.owes(done, failed));
+        let after = self.state.standing(&self.sheet);
+        let owe = self.rules_that(|rule| rule.owes(after));
         self.state.broken |= forbid | owe;
     }
 
     /// The unbroken rules for which `says` is true.
-    fn rules_that(&self, says: impl Fn(&super::rules::Rule) -> bool) -> Set {
+    fn rules_that(&self, says: impl Fn(&Rule) -> bool) -> Set {
         let mut found = 0;
         for (number, rule) in self.sheet.rules.iter().enumerate() {
             if !has(self.state.broken, number as u8) && says(rule) {

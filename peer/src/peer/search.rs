@@ -28,6 +28,10 @@
 //! event, and the walk over all usable events gives the first of those.
 //!
 //! An order also says which of its events were open, for whoever does it (S-5).
+//!
+//! An open trigger that nothing can stop is open or done all through a search.
+//! Either way its rule says the same of the other trigger (S-6), so it is left
+//! out of what has to be done for the rule to ask for its goal.
 
 use super::rules::Rule;
 use super::scheduler::State;
@@ -46,23 +50,24 @@ struct Terms {
     not_after: [Set; 16],
     /// Events that no order can contain.
     never: Set,
-    /// Triggers and goal of each rule whose goal is not refused or lapsed.
+    /// Of each rule whose goal is not refused or lapsed, the triggers that have to
+    /// be done for it to ask for its goal, and the goal.
     debts: Vec<(Set, Set)>,
 }
 
 impl Terms {
     fn new(sheet: &Sheet, state: &State) -> Terms {
         let mut terms = Terms::default();
-        let failed = state.failed();
+        let (failed, open) = (state.failed(), state.open(sheet));
         for (number, rule) in sheet.rules.iter().enumerate() {
             if !has(state.broken, number as u8) {
-                terms.add(rule, failed);
+                terms.add(rule, failed, open);
             }
         }
         terms
     }
 
-    fn add(&mut self, rule: &Rule, failed: Set) {
+    fn add(&mut self, rule: &Rule, failed: Set, open: Set) {
         match *rule {
             Rule::Order {
                 first,
@@ -74,15 +79,24 @@ impl Terms {
                     self.waits_for[usize::from(second)] |= one(first) & !failed;
                 }
             }
-            Rule::Follow { triggers, goal, .. } if has(failed, goal) => {
+            Rule::Follow {
+                triggers,
+                goal,
+                unstoppable,
+                ..
+            } => {
+                let asked = triggers & !(unstoppable & open);
+                if !has(failed, goal) {
+                    self.debts.push((asked, one(goal)));
+                    return;
+                }
                 for event in members(triggers) {
-                    match triggers & !one(event) {
+                    match asked & !one(event) {
                         0 => self.never |= one(event),
                         other => self.not_after[usize::from(event)] |= other,
                     }
                 }
             }
-            Rule::Follow { triggers, goal, .. } => self.debts.push((triggers, one(goal))),
         }
     }
 

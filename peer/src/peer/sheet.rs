@@ -131,6 +131,7 @@ impl Sheet {
             [named_first, .., goal] => Rule::Follow {
                 triggers: seen & !one(goal),
                 goal,
+                unstoppable: self.unstoppable(seen & !one(goal), goal),
                 named_first,
             },
             _ => unreachable!("rules name two events or more"),
@@ -140,6 +141,14 @@ impl Sheet {
         }
         self.rules.push(rule);
         Ok(())
+    }
+
+    /// The triggers that nothing can stop, where the goal can't be forced.
+    fn unstoppable(&self, triggers: Set, goal: u8) -> Set {
+        if has(self.forcible, goal) {
+            return 0;
+        }
+        triggers & !(self.rejectable | self.delayable)
     }
 
     fn enforceable(&self, rule: &Rule) -> bool {

@@ -49,6 +49,7 @@ fn put_rule(out: &mut impl Write, rule: &Rule) -> std::io::Result<()> {
             triggers,
             goal,
             named_first,
+            ..
         } => match lowest(triggers & !one(named_first)) {
             None => out.write_all(&[3, named_first, goal]),
             Some(other) => out.write_all(&[4, named_first, other, goal]),

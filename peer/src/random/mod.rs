@@ -7,6 +7,7 @@ mod forms;
 mod lists;
 mod shapes;
 mod sheets;
+mod waiting;
 
 pub use batches::{batch, batch_length, replies};
 pub use forcible::forcible_sheet;
@@ -14,6 +15,7 @@ pub use forms::{longest_sheet, other_form};
 pub use lists::{any_call, calls, hostile_list, mixed_list, single_calls};
 pub use shapes::hostile_sheet;
 pub use sheets::{admitted_sheet, sheet, Made};
+pub use waiting::{waiting_calls, waiting_sheet, Three, Waiting};
 
 /// Splitmix64.
 pub struct Random(u64);

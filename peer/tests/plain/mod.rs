@@ -1,7 +1,7 @@
-//! The words of document 01 and of S-5 taken one by one, with no regard to speed:
-//! fates in an array, and a search that tries every order in turn. The peer's own
-//! search is checked against it, and the library's calls on states that a caller
-//! brings.
+//! The words of document 01, of S-5 and of S-6 taken one by one, with no regard to
+//! speed: fates in an array, and a search that tries every order in turn. The peer's
+//! own search is checked against it, and the library's calls on states that a caller
+//! brings. S-6 can be left out of it, or read wrongly, to see what that changes.
 
 /// In the sequence of the C header's numbers.
 #[derive(Clone, Copy, PartialEq, Eq, Debug)]
@@ -22,6 +22,29 @@ impl Fate {
     }
 }
 
+/// What a conditional is taken to say of one of its events while the other of a and b
+/// is open. All but the first are wrong since S-6.
+#[derive(Clone, Copy, PartialEq, Eq, Debug, Default)]
+pub enum Beside {
+    #[default]
+    AsAsked,
+    /// Nothing, as in document 01 alone.
+    Nothing,
+    /// The same once the other has lapsed.
+    LapsedToo,
+    /// The same where c is forcible.
+    ForcibleToo,
+    /// The same where the other is rejectable.
+    RejectableToo,
+    /// It may be done alone while c is unsettled.
+    NothingOwed,
+    /// It may be done once c is refused or lapsed.
+    NothingBarred,
+    /// Nothing where the other is a, and where it is b.
+    NotForA,
+    NotForB,
+}
+
 #[derive(Clone, Default)]
 pub struct Plain {
     attributes: Vec<u8>,
@@ -35,6 +58,7 @@ pub struct Plain {
     pub refused_calls: usize,
     /// Whether what is done by force is written as done, as it was before S-5.
     pub without_mark: bool,
+    pub beside: Beside,
 }
 
 impl Plain {
@@ -101,12 +125,31 @@ impl Plain {
                 (e == a && self.done(b), waits)
             }
             [3, a, b] => (e == a && self.gone(b), false),
-            [4, a, b, c] => {
-                let second = (e == a && self.done(b)) || (e == b && self.done(a));
-                (second && self.gone(c), false)
+            [4, a, b, c] if self.gone(c) && (e == a || e == b) => {
+                let other = if e == a { b } else { a };
+                let beside = self.beside != Beside::NothingBarred && self.is_left(other, a, c);
+                (self.done(other) || beside, false)
             }
+            [4, ..] => (false, false),
             _ => unreachable!(),
         }
+    }
+
+    /// Whether a conditional that begins with a and ends with c is a need for c of one
+    /// event as the other is open: that can neither be refused nor wait, and c can't be
+    /// forced.
+    fn is_left(&self, other: u8, a: u8, c: u8) -> bool {
+        let lapsed = self.beside == Beside::LapsedToo && self.fate(other) == Lapsed;
+        let unstoppable = !self.is(other, 2) && !self.is(other, 4);
+        let wrong = if other == a {
+            Beside::NotForA
+        } else {
+            Beside::NotForB
+        };
+        (self.fate(other) == Open || lapsed)
+            && (unstoppable || self.beside == Beside::RejectableToo)
+            && (!self.is(c, 1) || self.beside == Beside::ForcibleToo)
+            && ![Beside::Nothing, wrong].contains(&self.beside)
     }
 
     fn owes(&self, rule: usize) -> bool {
@@ -115,7 +158,15 @@ impl Plain {
         }
         match *self.rules[rule] {
             [3, a, b] => self.done(a) && self.unsettled(b),
-            [4, a, b, c] => self.done(a) && self.done(b) && self.unsettled(c),
+            [4, a, b, c] if self.unsettled(c) => {
+                let other = match (self.done(a), self.done(b)) {
+                    (true, true) => return true,
+                    (true, false) => b,
+                    (false, true) => a,
+                    (false, false) => return false,
+                };
+                self.beside != Beside::NothingOwed && self.is_left(other, a, c)
+            }
             _ => false,
         }
     }

@@ -8,7 +8,7 @@ use crate::images::previews::Counts;
 use crate::images::runs::{Origin, ORIGINS};
 use crate::library::raw::Entry;
 use crate::peer::calls::Call;
-use crate::peer::rules::Rule;
+use crate::peer::rules::{Rule, Standing};
 use crate::peer::set::{has, one, within, Set};
 use crate::peer::{Cause, Fate, Scheduler};
 
@@ -203,10 +203,10 @@ impl Tally {
 /// Whether a rule that stands to the end bars the event, and would not if what was forced
 /// so far were not done.
 fn is_barred(peer: &Scheduler, event: u8, forced: Set, failed: Set) -> bool {
+    let open = 0;
+    let bars = |rule: &Rule, done| rule.bars(event, Standing { open, done, failed });
     let mut rules = (0..).zip(&peer.sheet().rules);
     rules.any(|(number, rule)| {
-        !has(peer.state().broken, number)
-            && rule.bars(event, forced, failed)
-            && !rule.bars(event, 0, failed)
+        !has(peer.state().broken, number) && bars(rule, forced) && !bars(rule, 0)
     })
 }

@@ -27,7 +27,7 @@ pub struct Outcome {
 }
 
 impl Outcome {
-    fn of_library(make: Make, image: &Image, call: Call) -> Outcome {
+    pub fn of_library(make: Make, image: &Image, call: Call) -> Outcome {
         let mut image = *image;
         let number = make(&mut image, call);
         let fate = match (number, call) {
@@ -41,7 +41,7 @@ impl Outcome {
         }
     }
 
-    fn of_peer(peer: &mut Scheduler, image: &Image, call: Call) -> Outcome {
+    pub fn of_peer(peer: &mut Scheduler, image: &Image, call: Call) -> Outcome {
         let mut image = *image;
         let (number, fate) = match apply(peer, call) {
             Answer::Fate(fate) => (0, Some(number(fate))),
@@ -65,7 +65,7 @@ impl Outcome {
         }
     }
 
-    fn same(&self, other: &Outcome) -> Result<(), String> {
+    pub fn same(&self, other: &Outcome) -> Result<(), String> {
         let what = if self.number != other.number {
             "the number"
         } else if self.fate != other.fate {
