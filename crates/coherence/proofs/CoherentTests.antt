@@ -2,7 +2,7 @@
 use Prim.Native.Nat.{ℕ, _≤_, _<_}
 use native.Mathlib.Omega.{arith}
 use borrow.Author.Tests.{lt-ltb, ltb-false, not-true, not-false, leb-true}
-use mathlib.Core.Bool.{Bool, true, false, not, _&&_, _||_, and-true, and-false, or-false}
+use mathlib.Core.Bool.{Bool, true, false, not, _&&_, _||_, and-true, and-false}
 use mathlib.Core.List.{List}
 use mathlib.Core.Logic.{inl, inr}
 use mathlib.Core.Path.{_≡_, refl, sym, _∙_, ap}
@@ -163,7 +163,7 @@ module _ (p : Plan) (f : Fates) (closed : List Bool) (h : List Entry) where
 
     holds-paid : (r : Rule)
         → named (eventCount p) r ≡ true
-        → (not (owes p f r) && holds h r) ≡ (holds h r && not (awaits p f r))
+        → (not (owes p f r) && holds h r) ≡ (holds h r && not (awaits p f h r))
     unfolding named owes triggered reckoned holds awaits
     holds-paid (Order a b) n = sym (and-true (not (doneInTurn h b a)))
     holds-paid (Need a b) n =
@@ -176,7 +176,7 @@ module _ (p : Plan) (f : Fates) (closed : List Bool) (h : List Entry) where
 
     -- so number 12 asks of a rule that it is sound, and recorded as broken, or holds and awaits nothing
     rule-test : (broken : List Bool) (i : ℕ)
-        → ruleCoheres p f broken h i ≡ (soundRule p i && (readAt 16 broken i false || (holds h (ruleAt p i) && not (awaits p f (ruleAt p i)))))
+        → ruleCoheres p f broken h i ≡ (soundRule p i && (readAt 16 broken i false || (holds h (ruleAt p i) && not (awaits p f h (ruleAt p i)))))
     unfolding ruleCoheres soundRule
     rule-test broken i = elim (either (named (eventCount p) (ruleAt p i))) [
       | inl n ↦ rw (holds-paid (ruleAt p i) n)
@@ -191,7 +191,7 @@ abbrev pub admitsAt : Plan → ℕ → List RuleLine → ℕ → Bool
 admitsAt p n rules i = named n (ruleIn rules i) && enforceable p (ruleIn rules i)
 
 abbrev pub keptAt : Plan → Fates → List Entry → List Bool → List RuleLine → ℕ → Bool
-keptAt p f h broken rules i = getD broken i false || (holds h (ruleIn rules i) && not (awaits p f (ruleIn rules i)))
+keptAt p f h broken rules i = getD broken i false || (holds h (ruleIn rules i) && not (awaits p f h (ruleIn rules i)))
 
 pub kept-both : (p : Plan) (f : Fates) (n : ℕ) (h : List Entry) (broken : List Bool) (rules : List RuleLine) (i : ℕ)
     → admitsAt p n rules i ≡ true
@@ -206,9 +206,9 @@ module _ (p : Plan) (f : Fates) (broken closed : List Bool) (h : List Entry) (fe
       → (admitsAt p (eventCount p) (p .rules) i && keptAt p f h broken (p .rules) i) ≡ ruleCoheres p f broken h i
   unfolding soundRule
   read-rule i lt =
-      ap (λ (v : RuleLine). (named (eventCount p) (v .rule) && enforceable p (v .rule)) && (getD broken i false || (holds h (v .rule) && not (awaits p f (v .rule)))))
+      ap (λ (v : RuleLine). (named (eventCount p) (v .rule) && enforceable p (v .rule)) && (getD broken i false || (holds h (v .rule) && not (awaits p f h (v .rule)))))
       (sym (read-in 16 (p .rules) i blankRule (omega arith)))
-      ∙ ap (λ b. soundRule p i && (b || (holds h (ruleAt p i) && not (awaits p f (ruleAt p i))))) (sym (read-in 16 broken i false (omega arith)))
+      ∙ ap (λ b. soundRule p i && (b || (holds h (ruleAt p i) && not (awaits p f h (ruleAt p i))))) (sym (read-in 16 broken i false (omega arith)))
       ∙ sym (rule-test p f closed h pass broken i)
 
   module _ (i : ℕ) (lt : i < ruleCount p) where
@@ -270,46 +270,52 @@ module _ (rule : Rule) (a b : ℕ) (names : (n : ℕ) × (n ≤ 16) × (named n 
         let q = conditional-inside c is in
         rw (is, p .done a, p .done b, p .done c, lt-ltb a 16 (q .0), lt-ltb b 16 (q .1), lt-ltb c 16 (q .2))
 
+-- an order and a need await nothing
+module _ (p : Plan) (f : Fates) (h : List Entry) (rule : Rule) (a b : ℕ) where
+  pub order-awaits : rule ≡ Order a b → false ≡ awaits p f h rule
+  unfolding awaits
+  order-awaits is = rw is
+
+  pub need-awaits : rule ≡ Need a b → false ≡ awaits p f h rule
+  unfolding awaits
+  need-awaits is = rw is
+
 -- what a conditional awaits, as the code reads it
 abbrev unstoppableAs : Event → Fate → Bool
 unstoppableAs v x = isOpen x && not (holdsBit 2 (v .attributes)) && not (holdsBit 4 (v .attributes))
 
-module _ (events : List Event) (standings : List Standing) (rule : Rule) where
+module _ (events : List Event) (standings : List Standing) (places : List ℕ) (rule : Rule) where
   abbrev fateIn : ℕ → Fate
   fateIn e = getD standings e blankStanding .fate
 
   abbrev eventIn : ℕ → Event
   eventIn e = getD events e blankEvent
 
+  abbrev doneAt : ℕ → Bool
+  doneAt e = ltb 0 (getD places e 0)
+
   pub conditional-awaits : (a b c : ℕ)
       → ((n : ℕ) × (n ≤ 16) × (named n rule ≡ true))
       → rule ≡ Conditional a b c
-      → (x u y v w z : Bool)
-      → x ≡ isDone (fateIn a)
+      → (u v w z : Bool)
       → u ≡ unstoppableAs (eventIn b) (fateIn b)
-      → y ≡ isDone (fateIn b)
       → v ≡ unstoppableAs (eventIn a) (fateIn a)
       → w ≡ holdsBit 1 (eventIn c .attributes)
       → z ≡ isSettled (fateIn c)
-      → (p : Plan)
+      → (p : Plan) (h : List Entry)
       → p .events ≡ events
-      → ((((x && u) || (y && v)) && not w) && not z) ≡ awaits p (fatesOf standings) rule
+      → Placed h (placeIn places)
+      → ((((doneAt a && u) || (doneAt b && v)) && not w) && not z) ≡ awaits p (fatesOf standings) h rule
   unfolding awaits unstoppable
-  conditional-awaits a b c names is x u y v w z hx hu hy hv hw hz p same =
+  conditional-awaits a b c names is u v w z hu hv hw hz p h same placed =
       let q = conditional-inside rule a b names c is in
       let fate : (e : ℕ) → e < 16 → fateIn e ≡ fatesOf standings e =
       λ e lt. ap (λ (s : Standing). s .fate) (sym (read-in 16 standings e blankStanding lt)) in
       let event : (e : ℕ) → e < 16 → eventIn e ≡ eventAt p e =
       λ e lt. ap (λ (l : List Event). getD l e blankEvent) (sym same) ∙ sym (read-in 16 (p .events) e blankEvent lt) in
-      rw (is, hx, hu, hy, hv, hw, hz, fate a (q .0), fate b (q .1), fate c (q .2), event a (q .0), event b (q .1), event c (q .2))
-
-  pub order-awaits : (a b : ℕ) → rule ≡ Order a b → (p : Plan) → p .events ≡ events → false ≡ awaits p (fatesOf standings) rule
-  unfolding awaits
-  order-awaits a b is p same = rw is
-
-  pub need-awaits : (a b : ℕ) → rule ≡ Need a b → (p : Plan) → p .events ≡ events → false ≡ awaits p (fatesOf standings) rule
-  unfolding awaits
-  need-awaits a b is p same = rw is
+      let done : (e : ℕ) → e < 16 → doneAt e ≡ doneIn h e =
+      λ e lt. sym (placed .done e ∙ ap (ltb 0) (read-in 16 places e 0 lt)) in
+      rw (is, hu, hv, hw, hz, done a (q .0), done b (q .1), fate a (q .0), fate b (q .1), fate c (q .2), event a (q .0), event b (q .1), event c (q .2))
 
 -- the tests of number 12 in turn: the first that fails decides
 module _ (p : Plan) (len : ℕ) where

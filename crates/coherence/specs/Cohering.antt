@@ -2,10 +2,10 @@
 -- are closed, and a history with its length.
 use Rattle.coherence.specs.Prelude.{ℕ, Bool, false, not, _&&_, _||_, List, leb, Rule, Order, Need, Conditional, Plan, Entry}
 use Rattle.plan.specs.Base.{allBelow, readAt}
-use Rattle.plan.specs.Fates.{Fates, isOpen, isHeld, isDone, isSettled}
+use Rattle.plan.specs.Fates.{Fates, isOpen, isHeld, isSettled}
 use Rattle.plan.specs.Plans.{eventCount, ruleCount, stepOf, ruleAt, forcible, delayable}
 use Rattle.plan.specs.Rules.{soundEvent, soundRule, unstoppable, owes}
-use Rattle.plan.specs.Histories.{holds, declaredOnly, listedAs}
+use Rattle.plan.specs.Histories.{doneIn, holds, declaredOnly, listedAs}
 
 -- a sheet could declare the event, the history lists it as its fate asks for, it may wait if it is held, and its step is
 -- not closed if it is open (10.4)
@@ -31,11 +31,11 @@ rulesCohere p f broken h = allBelow (ruleCount p) (ruleCoheres p f broken h)
 
 -- a conditional owes because of a trigger that nothing can stop: the other one is done, and c is neither forcible nor
 -- settled (6.10)
-unfoldable pub awaits : Plan → Fates → Rule → Bool
-awaits p f (Order a b) = false
-awaits p f (Need a b) = false
-awaits p f (Conditional a b c) =
-    ((isDone (f a) && unstoppable p f b) || (isDone (f b) && unstoppable p f a))
+unfoldable pub awaits : Plan → Fates → List Entry → Rule → Bool
+awaits p f h (Order a b) = false
+awaits p f h (Need a b) = false
+awaits p f h (Conditional a b c) =
+    ((doneIn h a && unstoppable p f b) || (doneIn h b && unstoppable p f a))
     && not (forcible p c)
     && not (isSettled (f c))
 

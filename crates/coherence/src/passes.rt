@@ -9,7 +9,6 @@ use plan::event::is_forcible;
 use plan::event::is_rejectable;
 use plan::fate::Fate;
 use plan::fate::Standing;
-use plan::fate::is_done;
 use plan::fate::is_held;
 use plan::fate::is_open;
 use plan::fate::is_settled;
@@ -127,7 +126,7 @@ fn are_rules_coherent(
             return false;
         }
         if !(broken[i as usize]
-            | (does_hold(places, rule) & !does_await(events, standings, rule))) {
+            | (does_hold(places, rule) & !does_await(events, standings, places, rule))) {
             return false;
         }
         i += 1;
@@ -161,9 +160,9 @@ fn does_hold(places: [u8; 16], rule: Rule) -> bool
 }
 
 // Does a conditional owe because nothing can stop one of its triggers, which is open, while the other is done (6.10)?
-fn does_await(events: [Event; 16], standings: [Standing; 16], rule: Rule) -> bool
+fn does_await(events: [Event; 16], standings: [Standing; 16], places: [u8; 16], rule: Rule) -> bool
     requires { ⌜ ((n : ℕ) × (n ≤ 16) × (named n rule ≡ true)) ⌝ }
-    ensures { λ r. ⌜ ((p : Plan) → p .events ≡ events → r ≡ awaits p (fatesOf standings) rule) ⌝ }
+    ensures { λ r. ⌜ ((p : Plan) (h : List Entry) → p .events ≡ events → Placed h (placeIn places) → r ≡ awaits p (fatesOf standings) h rule) ⌝ }
 {
     match rule {
         Rule::Order(a, b) => false,
@@ -178,7 +177,8 @@ fn does_await(events: [Event; 16], standings: [Standing; 16], rule: Rule) -> boo
             let early = events[a as usize];
             let late = events[b as usize];
             let called = events[c as usize];
-            ((is_done(x) & is_unstoppable(late, y)) | (is_done(y) & is_unstoppable(early, x)))
+            (((0 < places[a as usize]) & is_unstoppable(late, y))
+                | ((0 < places[b as usize]) & is_unstoppable(early, x)))
                 & !is_forcible(called.attributes)
                 & !is_settled(z)
         }

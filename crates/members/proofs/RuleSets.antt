@@ -4,6 +4,7 @@ use borrow.Author.Tests.{eqb-true, lt-ltb}
 use mathlib.Core.Bool.{Bool, true, false, not, _&&_, _||_, or-false}
 use mathlib.Core.Logic.{inl, inr}
 use mathlib.Core.Path.{_≡_, refl, sym, _∙_, ap}
+use lib.Bits.{bitAnd, bitOr}
 use lib.Dec.{eqb, ltb}
 use Rattle.plan.specs.declared.rule.Rule.the-variants.{Order, Need, Conditional}
 use Rattle.plan.specs.Fates.{Fates, isDone, isGone}
@@ -14,6 +15,7 @@ use Rattle.orders.specs.Closed.{asks}
 use Rattle.orders.specs.Stepwise.{follows}
 use Rattle.members.specs.Prelude.{Rule, Plan, View}
 use Rattle.members.specs.Sets.{inSet, Shows}
+use Rattle.members.proofs.Bits.{in-or, in-and}
 
 -- the contract of `with_if` at one of the sixteen places: n is m, and e where told to
 pub with-at : (m n e x : ℕ) (is : Bool)
@@ -76,33 +78,30 @@ reckoned-read p f v shows k t d s c hd hs hc =
 module _ (p : Plan) (f : Fates) (v : View) (shows : Shows p f v) (r : Rule) (a b : ℕ) where
   -- what a rule asks for
   module _ (m : ℕ) where
-    pub order-asks : (x y : Bool)
-        → r ≡ Order a b
-        → x ≡ inSet m b
-        → y ≡ inSet (v .waits) b
-        → (x && y) ≡ asks p f (inSet m) r
-    unfolding asks
-    order-asks x y is h k = rw (is, h, k, shows .waits b)
+    -- a member, or done
+    sure-read : (x : ℕ) → inSet (bitOr m (v .done)) x ≡ (inSet m x || isDone (f x))
+    sure-read x = in-or m (v .done) x ∙ ap (λ (d : Bool). inSet m x || d) (shows .done x)
 
-    pub need-asks : (x y : Bool)
-        → r ≡ Need a b
-        → x ≡ inSet m a
-        → y ≡ inSet (v .done) a
-        → (x || y) ≡ asks p f (inSet m) r
+    pub order-asks : (x : Bool) → r ≡ Order a b → x ≡ inSet (bitAnd m (v .waits)) b → x ≡ asks p f (inSet m) r
     unfolding asks
-    need-asks x y is h k = rw (is, h, k, shows .done a)
+    order-asks x is h = rw is (h ∙ in-and m (v .waits) b ∙ ap (λ (d : Bool). inSet m b && d) (shows .waits b))
 
-    pub conditional-asks : (c : ℕ) (x y dx rx dy ry : Bool)
+    pub need-asks : (x : Bool) → r ≡ Need a b → x ≡ inSet (bitOr m (v .done)) a → x ≡ asks p f (inSet m) r
+    unfolding asks
+    need-asks x is h = rw is (h ∙ sure-read a)
+
+    pub conditional-asks : (c : ℕ) (sx y ry sy x rx : Bool)
         → r ≡ Conditional a b c
-        → x ≡ inSet m a
+        → sx ≡ inSet (bitOr m (v .done)) a
         → y ≡ inSet m b
-        → dx ≡ inSet (v .done) a
         → ry ≡ reckoned p f c b
-        → dy ≡ inSet (v .done) b
+        → sy ≡ inSet (bitOr m (v .done)) b
+        → x ≡ inSet m a
         → rx ≡ reckoned p f c a
-        → (((x || dx) && (y || ry)) || ((y || dy) && (x || rx))) ≡ asks p f (inSet m) r
+        → ((sx && (y || ry)) || (sy && (x || rx))) ≡ asks p f (inSet m) r
     unfolding asks
-    conditional-asks c x y dx rx dy ry is hx hy kx jy ky jx = rw (is, hx, hy, kx, jy, ky, jx, shows .done a, shows .done b)
+    conditional-asks c sx y ry sy x rx is kx hy jy ky hx jx =
+        rw (is, kx ∙ sure-read a, hy, jy, ky ∙ sure-read b, hx, jx)
 
   -- what it forbids
   module _ (e : ℕ) where

@@ -9,7 +9,6 @@ use Rattle.plan.specs.declared.fate.Fate.the-variants.{Done, Forced}
 use Rattle.plan.specs.Fates.{Fates, isOpen, isHeld, isDone, isGone}
 use Rattle.plan.specs.Plans.{eventCount, forcible, rejectable, delayable}
 use Rattle.plan.specs.Rules.{unstoppable, ready}
-use Rattle.plan.proofs.Fates.{as-done}
 use Rattle.orders.specs.Runs.{doing}
 use Rattle.orders.proofs.Doing.{doing-as, doing-other}
 use Rattle.members.specs.Prelude.{Fate, Plan, View}

@@ -126,14 +126,13 @@ fn target_of(rule: Rule) -> u8
 fn does_ask(rule: Rule, members: u16, view: View) -> bool
     ensures { λ r. ⌜ ((p : Plan) (f : Fates) → Shows p f view → r ≡ asks p f (inSet members) rule) ⌝ }
 {
+    let sure = members | view.done;
     match rule {
-        Rule::Order(a, b) => is_in(members, b) & is_in(view.waits, b),
-        Rule::Need(a, b) => is_in(members, a) | is_in(view.done, a),
+        Rule::Order(a, b) => is_in(members & view.waits, b),
+        Rule::Need(a, b) => is_in(sure, a),
         Rule::Conditional(a, b, c) => {
-            let first = is_in(members, a);
-            let second = is_in(members, b);
-            ((first | is_in(view.done, a)) & (second | is_reckoned(view, c, b)))
-                | ((second | is_in(view.done, b)) & (first | is_reckoned(view, c, a)))
+            (is_in(sure, a) & (is_in(members, b) | is_reckoned(view, c, b)))
+                | (is_in(sure, b) & (is_in(members, a) | is_reckoned(view, c, a)))
         }
     }
 }

@@ -5,7 +5,7 @@ use native.Mathlib.Decide.{ℕ-discrete}
 use borrow.Author.Tests.{not-true, eq-eqb, eqb-true}
 use mathlib.Core.Bool.{Bool, true, false, not, _&&_, _||_}
 use mathlib.Core.Logic.{_⊎_, inl, inr}
-use mathlib.Core.Path.{_≡_, refl, sym, ap, subst}
+use mathlib.Core.Path.{_≡_, refl, sym, _∙_, ap, subst}
 use lib.Dec.{eqb}
 use Rattle.orders.specs.Prelude.{Rule, Order, Need, Conditional, Plan}
 use Rattle.plan.specs.Base.{anyBelow, countBelow, oneIf}
@@ -75,9 +75,10 @@ pub wants-asks : (p : Plan) (f : Fates) (m : Events) (r : Rule) → Wants p f m 
 unfolding asks
 wants-asks p f m r (first {b = b} t d u) = rw (t, d)
 wants-asks p f m r (one {a = a} t u) = has-or f m a t
-wants-asks p f m r (both {a = a} {b = b} {c = c} t v u) = rw (by-both p f m a b c a b t v)
+wants-asks p f m r (both {a = a} {b = b} {c = c} t v u) =
+    ap (λ (x : Bool). x || asksBy p f m a b c b a) (by-both p f m a b c a b t v)
 wants-asks p f m r (turned {a = a} {b = b} {c = c} t v u) =
-    rw (by-both p f m a b c b a t v) (or-right-true (asksBy p f m a b c a b))
+    ap (λ (x : Bool). asksBy p f m a b c a b || x) (by-both p f m a b c b a t v) ∙ or-right-true (asksBy p f m a b c a b)
 
 pub asks-wants : (p : Plan) (f : Fates) (m : Events) (r : Rule)
     → asks p f m r ≡ true

@@ -16,7 +16,7 @@ use Rattle.plan.specs.Plans.{eventCount, ruleCount, stepOf, ruleAt, delayable, 
 use Rattle.scheduler.specs.State.{fateOf, brokenAt, closedAt, lineCount, lines, hold, settleAs}
 use Rattle.plan.specs.Histories.{blankEntry, fateIf}
 use Rattle.plan.specs.Fates.{isOpen, isHeld, isDone, isGone, isSettled}
-use Rattle.plan.specs.Rules.{enforceable, unstoppable, reckoned, triggered, bars, makesWait, forbids, owes}
+use Rattle.plan.specs.Rules.{enforceable, reckoned, triggered, bars, makesWait, forbids, owes}
 use Rattle.scheduler.specs.Orders.{fateAtTurn, doOne, Viable, chosen, doAll, hasViable}
 use Rattle.scheduler.specs.Rules.{strains}
 use Rattle.scheduler.specs.Calls.{Turn, refuses, does, Turns, stay, turn, settle, breakIf, recordBroken, doAlone, submit}

@@ -5,19 +5,17 @@ use mathlib.Core.Bool.{Bool, true, false, not, _&&_, _||_, and-false, or-false}
 use mathlib.Core.List.{List, [], _∷_}
 use mathlib.Core.Logic.{inl, inr}
 use mathlib.Core.Path.{_≡_, refl, sym, _∙_, ap, subst}
-use lib.Dec.{eqb}
-use Rattle.theory.proofs.Types.{Fate, Open, Rule, Order, Need, Conditional, Plan, State, Call}
-use Rattle.plan.specs.Fates.{Fates, isOpen, isDone, isGone, isSettled}
-use Rattle.plan.specs.Plans.{ruleAt, forcible, rejectable, delayable}
+use Rattle.theory.proofs.Types.{Rule, Conditional, Plan, State, Call}
+use Rattle.plan.specs.Fates.{Fates, isOpen, isDone, isSettled}
+use Rattle.plan.specs.Plans.{ruleAt, forcible, rejectable}
 use Rattle.plan.specs.Rules.{unstoppable, reckoned, triggered, bars, owes}
 use Rattle.scheduler.specs.State.{fateOf, Sized}
-use Rattle.scheduler.specs.Coherent.{coherent}
 use Rattle.scheduler.specs.Lists.{scheduler, after}
 use Rattle.scheduler.specs.Demand.{unbreakable}
-use Rattle.theory.specs.Waiting.{Awaits, Provides, BreaksOnly, plainBars, plainOwes, Plain, Unwaiting, of-order, of-need, forcible-c, stoppable, WaitEnds}
+use Rattle.theory.specs.Waiting.{Provides, BreaksOnly, plainBars, plainOwes, Plain, Unwaiting, of-order, of-need, forcible-c, stoppable, WaitEnds}
 use Rattle.plan.proofs.Tests.{clash, either, or-left, or-right}
 use Rattle.scheduler.proofs.Grounds.{grounded}
-use Rattle.theory.proofs.Waits.{awaits-other, reckoned-refusable}
+use Rattle.theory.proofs.Waits.{awaits-other}
 use Rattle.theory.proofs.RuleInvariant.{settled-closed, provided-of}
 use Rattle.theory.proofs.Coherence.{coherent-sound, sized-call}
 use Rattle.theory.proofs.Demands.{at-list, demand3}

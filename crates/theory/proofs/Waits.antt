@@ -4,14 +4,14 @@ use Prim.Native.Nat.{ℕ}
 use borrow.Author.Tests.{eq-eqb}
 use mathlib.Core.Bool.{Bool, true, false, not, _&&_, _||_, and-false, or-false}
 use mathlib.Core.Logic.{inl, inr}
-use mathlib.Core.Path.{_≡_, refl, sym, _∙_, ap}
+use mathlib.Core.Path.{_≡_, refl, ap}
 use lib.Dec.{eqb}
 use Rattle.theory.proofs.Types.{Rule, Order, Need, Conditional, Plan}
 use Rattle.plan.specs.Fates.{Fates, isOpen, isDone, isGone, isSettled}
 use Rattle.plan.specs.Plans.{ruleAt, forcible, rejectable, delayable}
 use Rattle.plan.specs.Rules.{enforceable, unstoppable, reckoned, triggered, bars, owes}
 use Rattle.scheduler.specs.Demand.{unbreakable}
-use Rattle.theory.specs.Waiting.{Awaits, plainBars, plainOwes, Plain}
+use Rattle.theory.specs.Waiting.{Awaits, plainBars, plainOwes}
 use Rattle.plan.proofs.Tests.{clash, either, or-right-true}
 use Rattle.theory.proofs.SoundPlans.{Sound, rule-enforced}
 

@@ -80,8 +80,9 @@ returns-2 : tie.Need-returns-2 Inv-loop μ-loop
 returns-2 c =
     let s = c .before .before .before .before .before .before .before .before .before .before in
     λ closed h placed pass.
-    sym (rule-breaks (s .args .plan) (fatesOf (s .args .standings)) (s .args .t3) closed h (s .pre .1) pass (c .before .before .before .before .before .before .before .loop .i) (c .before .before .before .before .before .before .loop-test .taken)
-    (not-true _ (rw (c .before .before .does-hold .ensures h placed, c .before .does-await .ensures (s .args .plan) refl) at (c .if2 .taken))))
+    sym (rule-breaks (s .args .plan) (fatesOf (s .args .standings)) (s .args .t3) closed h (s .pre .1) pass
+    (c .before .before .before .before .before .before .before .loop .i) (c .before .before .before .before .before .before .loop-test .taken)
+    (not-true _ (rw (c .before .before .does-hold .ensures h placed, c .before .does-await .ensures (s .args .plan) h refl placed) at (c .if2 .taken))))
 
 add-i : tie.Need-add-i Inv-loop μ-loop
 add-i c = search needs
@@ -98,7 +99,7 @@ loop-again c =
           below-more _ _ (i .inv .1 p h same placed)
           (kept-both p (fatesOf (s .args .standings)) (eventCount (s .args .plan)) h (s .args .t3) (s .args .plan .rules) (i .i)
           (not-false _ (rw (c .before .before .before .before .is-admitted .ensures p same) at (c .before .before .before .if1 .left)))
-          (not-false _ (rw (c .before .before .does-hold .ensures h placed, c .before .does-await .ensures p same) at (c .if2 .left)))),
+          (not-false _ (rw (c .before .before .does-hold .ensures h placed, c .before .does-await .ensures p h same placed) at (c .if2 .left)))),
     )
 
 returns-3 : tie.Need-returns-3 Inv-loop μ-loop

@@ -58,14 +58,21 @@ mul-called c = search needs
 array-copy-out-called : tie.Need-array-copy-out-called
 array-copy-out-called c = conditional-inside _ _ _ (c .before .before .before .before .before .before .before .before .pre) _ (c .before .before .before .before .before .before .rule3 .given .1) .2
 
-is-done-requires : tie.Need-is-done-requires
-is-done-requires c κs = search needs
+cast-result : tie.Need-cast-result
+cast-result c = search needs
+
+array-read-result : tie.Need-array-read-result
+array-read-result c = conditional-inside _ _ _ (c .before .before .before .before .before .before .before .before .before .pre) _ (c .before .before .before .before .before .before .before .rule3 .given .1) .0
 
 is-unstoppable-requires : tie.Need-is-unstoppable-requires
 is-unstoppable-requires c κs = search needs
 
-is-done-requires-2 : tie.Need-is-done-requires-2
-is-done-requires-2 c κs = search needs
+cast-result-2 : tie.Need-cast-result-2
+cast-result-2 c = search needs
+
+array-read-result-2 : tie.Need-array-read-result-2
+array-read-result-2 c =
+    conditional-inside _ _ _ (c .before .before .before .before .before .before .before .before .before .before .pre) _ (c .before .before .before .before .before .before .before .before .rule3 .given .1) .1
 
 is-unstoppable-requires-2 : tie.Need-is-unstoppable-requires-2
 is-unstoppable-requires-2 c κs = search needs
@@ -77,22 +84,20 @@ is-settled-requires : tie.Need-is-settled-requires
 is-settled-requires c κs = search needs
 
 returns : tie.Need-returns
-returns c = λ p same. order-awaits _ (c .before .before .before .args .t2) _ _ _ (c .before .rule .given .1) p same
+returns c = λ p h same placed. order-awaits p _ h _ _ _ (c .before .rule .given .1)
 
 returns-2 : tie.Need-returns-2
-returns-2 c = λ p same. need-awaits _ (c .before .before .before .args .t2) _ _ _ (c .before .rule2 .given .1) p same
+returns-2 c = λ p h same placed. need-awaits p _ h _ _ _ (c .before .rule2 .given .1)
 
 returns-3 : tie.Need-returns-3
-returns-3 c = λ p same.
-    let s = c .before .before .before .before .before .before .before .before .before .before .before .before .before .before .before in
-    conditional-awaits _ (s .args .t2) _ _ _ _ (s .pre) (c .before .before .before .before .before .before .before .before .before .before .before .before .before .rule3 .given .1) _ _ _ _ _ _
-    (c .before .before .before .before .before .is-done .ensures)
-    (c .before .before .before .before .is-unstoppable .ensures)
-    (c .before .before .before .is-done2 .ensures)
+returns-3 c = λ p h same placed.
+    let s = c .before .before .before .before .before .before .before .before .before .before .before .before .before in
+    conditional-awaits _ (s .args .t2) (s .args .t3) _ _ _ _ (s .pre) (c .before .before .before .before .before .before .before .before .before .before .before .rule3 .given .1) _ _ _ _
+    (c .before .before .before .is-unstoppable .ensures)
     (c .before .before .is-unstoppable2 .ensures)
     (c .before .is-forcible .ensures)
     (c .is-settled .ensures)
-    p same
+    p h same placed
 
 pub does-await-spec : {M : Type 1} → statement M
 does-await-spec =
@@ -116,9 +121,11 @@ does-await-spec =
     cast-called
     mul-called
     array-copy-out-called
-    is-done-requires
+    cast-result
+    array-read-result
     is-unstoppable-requires
-    is-done-requires-2
+    cast-result-2
+    array-read-result-2
     is-unstoppable-requires-2
     is-forcible-requires
     is-settled-requires

@@ -1,5 +1,4 @@
 -- `first_of` meets its contract.
-use native.Mathlib.Omega.{arith}
 use borrow.Author.Needs.{needs}
 use Rattle.members.proofs.Bits.{lone-some, in-lower, in-all}
 use Rattle.members.proofs.set.first_of.Statement.{statement}
