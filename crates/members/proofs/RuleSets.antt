@@ -1,10 +1,10 @@
 -- What one rule reckons with, asks for, forbids, owes and blocks, over sets as code reads and makes them.
 use Prim.Native.Nat.{ℕ, _<_}
 use borrow.Author.Tests.{eqb-true, lt-ltb}
-use mathlib.Core.Bool.{Bool, true, false, not, _&&_, _||_, or-false}
+use mathlib.Core.Bool.{Bool, true, false, not, _&&_, _||_, or-false, or-assoc}
 use mathlib.Core.Logic.{inl, inr}
-use mathlib.Core.Path.{_≡_, refl, sym, _∙_, ap}
-use lib.Bits.{bitAnd, bitOr}
+use mathlib.Core.Path.{_≡_, refl, sym, _∙_, ap, ap₂}
+use lib.Bits.{bitOr}
 use lib.Dec.{eqb, ltb}
 use Rattle.plan.specs.declared.rule.Rule.the-variants.{Order, Need, Conditional}
 use Rattle.plan.specs.Fates.{Fates, isDone, isGone}
@@ -15,7 +15,7 @@ use Rattle.orders.specs.Closed.{asks}
 use Rattle.orders.specs.Stepwise.{follows}
 use Rattle.members.specs.Prelude.{Rule, Plan, View}
 use Rattle.members.specs.Sets.{inSet, Shows}
-use Rattle.members.proofs.Bits.{in-or, in-and}
+use Rattle.members.proofs.Bits.{in-or}
 
 -- the contract of `with_if` at one of the sixteen places: n is m, and e where told to
 pub with-at : (m n e x : ℕ) (is : Bool)
@@ -62,18 +62,28 @@ twice : (b : Bool) → not (not b) ≡ b
 twice true = refl
 twice false = refl
 
--- a trigger that a conditional reckons with
-pub reckoned-read : (p : Plan) (f : Fates) (v : View)
-    → Shows p f v
-    → (k t : ℕ) (d s c : Bool)
-    → d ≡ inSet (v .done) t
-    → s ≡ inSet (v .stoppable) t
-    → c ≡ inSet (v .forcible) k
-    → (d || (not s && not c)) ≡ reckoned p f k t
-unfolding reckoned
-reckoned-read p f v shows k t d s c hd hs hc =
-    rw (hd, hs, hc, shows .done t, shows .stops t, shows .forces k)
-    (ap (λ (b : Bool). isDone (f t) || (b && not (forcible p k))) (twice (unstoppable p f t)))
+-- a trigger that nothing can stop, for a c that cannot be forced; and one that a conditional reckons with
+abbrev pending : Plan → Fates → ℕ → ℕ → Bool
+pending p f k t = unstoppable p f t && not (forcible p k)
+
+module _ (p : Plan) (f : Fates) (v : View) (shows : Shows p f v) (k t : ℕ) where
+  pub pending-read : (s c : Bool)
+      → s ≡ inSet (v .stoppable) t
+      → c ≡ inSet (v .forcible) k
+      → (not s && not c) ≡ pending p f k t
+  pending-read s c hs hc =
+      rw (hs, hc, shows .stops t, shows .forces k) (ap (λ (b : Bool). b && not (forcible p k)) (twice (unstoppable p f t)))
+
+  pub reckoned-read : (d w : Bool) → d ≡ inSet (v .done) t → w ≡ pending p f k t → (d || w) ≡ reckoned p f k t
+  unfolding reckoned
+  reckoned-read d w hd hw = rw (hd, hw, shows .done t)
+
+-- two triggers, each sure or pending
+spread : (a b x y : Bool) → (((a && b) || (a && x)) || (b && y)) ≡ ((a && (b || x)) || (b && (a || y)))
+spread true true x y = refl
+spread true false x y = refl
+spread false true x y = refl
+spread false false x y = refl
 
 module _ (p : Plan) (f : Fates) (v : View) (shows : Shows p f v) (r : Rule) (a b : ℕ) where
   -- what a rule asks for
@@ -82,26 +92,27 @@ module _ (p : Plan) (f : Fates) (v : View) (shows : Shows p f v) (r : Rule) (a b
     sure-read : (x : ℕ) → inSet (bitOr m (v .done)) x ≡ (inSet m x || isDone (f x))
     sure-read x = in-or m (v .done) x ∙ ap (λ (d : Bool). inSet m x || d) (shows .done x)
 
-    pub order-asks : (x : Bool) → r ≡ Order a b → x ≡ inSet (bitAnd m (v .waits)) b → x ≡ asks p f (inSet m) r
+    pub order-asks : (x y : Bool) → r ≡ Order a b → x ≡ inSet m b → y ≡ inSet (v .waits) b → (x && y) ≡ asks p f (inSet m) r
     unfolding asks
-    order-asks x is h = rw is (h ∙ in-and m (v .waits) b ∙ ap (λ (d : Bool). inSet m b && d) (shows .waits b))
+    order-asks x y is h k = rw (is, h, k, shows .waits b)
 
     pub need-asks : (x : Bool) → r ≡ Need a b → x ≡ inSet (bitOr m (v .done)) a → x ≡ asks p f (inSet m) r
     unfolding asks
     need-asks x is h = rw is (h ∙ sure-read a)
 
-    pub conditional-asks : (c : ℕ) (sx y ry sy x rx : Bool)
+    pub conditional-asks : (c : ℕ) (x y wy wx : Bool)
         → r ≡ Conditional a b c
-        → sx ≡ inSet (bitOr m (v .done)) a
-        → y ≡ inSet m b
-        → ry ≡ reckoned p f c b
-        → sy ≡ inSet (bitOr m (v .done)) b
-        → x ≡ inSet m a
-        → rx ≡ reckoned p f c a
-        → ((sx && (y || ry)) || (sy && (x || rx))) ≡ asks p f (inSet m) r
-    unfolding asks
-    conditional-asks c sx y ry sy x rx is kx hy jy ky hx jx =
-        rw (is, kx ∙ sure-read a, hy, jy, ky ∙ sure-read b, hx, jx)
+        → x ≡ inSet (bitOr m (v .done)) a
+        → y ≡ inSet (bitOr m (v .done)) b
+        → wy ≡ pending p f c b
+        → wx ≡ pending p f c a
+        → (((x && y) || (x && wy)) || (y && wx)) ≡ asks p f (inSet m) r
+    unfolding asks reckoned
+    conditional-asks c x y wy wx is hx hy hv hw =
+        rw (is, hx ∙ sure-read a, hy ∙ sure-read b, hv, hw)
+        (spread (inSet m a || isDone (f a)) (inSet m b || isDone (f b)) (pending p f c b) (pending p f c a)
+        ∙ ap₂ (λ (u w : Bool). ((inSet m a || isDone (f a)) && u) || ((inSet m b || isDone (f b)) && w))
+        (or-assoc (inSet m b) (isDone (f b)) (pending p f c b)) (or-assoc (inSet m a) (isDone (f a)) (pending p f c a)))
 
   -- what it forbids
   module _ (e : ℕ) where

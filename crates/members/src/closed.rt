@@ -1,5 +1,5 @@
 // The least set of events that have to be done together with one.
-use super::rule::is_reckoned;
+use super::rule::is_pending;
 use super::set::is_in;
 use super::set::with_if;
 use super::view::View;
@@ -128,11 +128,12 @@ fn does_ask(rule: Rule, members: u16, view: View) -> bool
 {
     let sure = members | view.done;
     match rule {
-        Rule::Order(a, b) => is_in(members & view.waits, b),
+        Rule::Order(a, b) => is_in(members, b) & is_in(view.waits, b),
         Rule::Need(a, b) => is_in(sure, a),
         Rule::Conditional(a, b, c) => {
-            (is_in(sure, a) & (is_in(members, b) | is_reckoned(view, c, b)))
-                | (is_in(sure, b) & (is_in(members, a) | is_reckoned(view, c, a)))
+            let first = is_in(sure, a);
+            let second = is_in(sure, b);
+            (first & second) | (first & is_pending(view, c, b)) | (second & is_pending(view, c, a))
         }
     }
 }

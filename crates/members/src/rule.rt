@@ -2,9 +2,11 @@
 use super::set::is_in;
 use super::view::View;
 use plan::rule::Rule;
+ghost use mathlib.Core.Bool.{not, _&&_};
 ghost use mathlib.Core.Path.{_≡_};
 ghost use Rattle.plan.specs.Fates.{Fates};
-ghost use Rattle.plan.specs.Rules.{reckoned, forbids, owes};
+ghost use Rattle.plan.specs.Plans.{forcible};
+ghost use Rattle.plan.specs.Rules.{unstoppable, reckoned, forbids, owes};
 ghost use Rattle.members.specs.Prelude.{Plan};
 ghost use Rattle.members.specs.Sets.{Shows};
 
@@ -48,5 +50,12 @@ pub fn does_owe(rule: Rule, view: View) -> bool
 pub fn is_reckoned(view: View, c: u8, trigger: u8) -> bool
     ensures { λ r. ⌜ ((p : Plan) (f : Fates) → Shows p f view → r ≡ reckoned p f c trigger) ⌝ }
 {
-    is_in(view.done, trigger) | (!is_in(view.stoppable, trigger) & !is_in(view.forcible, c))
+    is_in(view.done, trigger) | is_pending(view, c, trigger)
+}
+
+// Can nothing stop the trigger, and c not be forced when it comes?
+pub fn is_pending(view: View, c: u8, trigger: u8) -> bool
+    ensures { λ r. ⌜ ((p : Plan) (f : Fates) → Shows p f view → r ≡ (unstoppable p f trigger && not (forcible p c))) ⌝ }
+{
+    !is_in(view.stoppable, trigger) & !is_in(view.forcible, c)
 }
