@@ -32,7 +32,7 @@ pub struct View {
     pub forcible: u16,
 }
 
-// The view of a plan's events and their fates; past the count nothing is held or at hand.
+// The view of a plan's events and their fates; past the count nothing is held or at hand. All sixteen places are 65535.
 pub fn view_of(events: [Event; 16], count: u8, standings: [Standing; 16]) -> View
     ensures { λ r. ⌜ ((p : Plan) → p .events ≡ events → eventCount p ≡ count → Shows p (fatesOf standings) r) ⌝ }
 {

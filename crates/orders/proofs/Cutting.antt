@@ -76,7 +76,7 @@ module _ (p : Plan) (l : ℕ → Bool) (m : Events) where
     still j t u = subst (λ (x : Fate). isSettled x ≡ false) (kept-same m (k j) t) u
 
     kept-reckoned : (i j : ℕ) → reckoned p h i j ≡ true → reckoned p g i j ≡ true
-    kept-reckoned i j d = elim (k j) [ inl q ↦ reckoned-same p h g i j q d | inr z ↦ reckoned-done p g i j (z .1) ]
+    kept-reckoned i j d = elim (k j) [ inl q ↦ sym (reckoned-same p h g i j q) ∙ d | inr z ↦ reckoned-done p g i j (z .1) ]
 
     kept-owed : (r : Rule) → Stands p l r → Owed p h r → Owed p g r
     kept-owed r st (needed {a = a} {b = b} d u) = needed (kept-done m (k a) d) (still b (cl r st (one (inr d) u)) u)

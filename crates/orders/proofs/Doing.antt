@@ -95,23 +95,23 @@ pub reckoned-done : (p : Plan) (f : Fates) (k j : ℕ) → isDone (f j) ≡ true
 unfolding reckoned
 reckoned-done p f k j h = rw h
 
-pub reckoned-same : (p : Plan) (f g : Fates) (k j : ℕ) → f j ≡ g j → reckoned p f k j ≡ true → reckoned p g k j ≡ true
+pub reckoned-same : (p : Plan) (f g : Fates) (k j : ℕ) → f j ≡ g j → reckoned p f k j ≡ reckoned p g k j
 unfolding reckoned unstoppable
-reckoned-same p f g k j q h =
-    subst (λ (x : Fate). (isDone x || ((isOpen x && not (rejectable p j) && not (delayable p j)) && not (forcible p k))) ≡ true) q h
+reckoned-same p f g k j q =
+    ap (λ (x : Fate). isDone x || ((isOpen x && not (rejectable p j) && not (delayable p j)) && not (forcible p k))) q
 
 -- it stays so, and what is more is the event done
 module _ (p : Plan) (f : Fates) (c : ℕ) where
   pub reckoned-stays : (k j : ℕ) → reckoned p f k j ≡ true → reckoned p (doing f c) k j ≡ true
   reckoned-stays k j h = elim (ℕ-discrete j c) [
     | yes q ↦ reckoned-done p (doing f c) k j (doing-as isDone refl f c j q)
-    | no ne ↦ reckoned-same p f (doing f c) k j (sym (doing-other f c j ne)) h
+    | no ne ↦ reckoned-same p (doing f c) f k j (doing-other f c j ne) ∙ h
   ]
 
   pub reckoned-before : (k j : ℕ) → reckoned p (doing f c) k j ≡ true → (j ≡ c) ⊎ (reckoned p f k j ≡ true)
   reckoned-before k j h = elim (ℕ-discrete j c) [
     | yes q ↦ inl q
-    | no ne ↦ inr (reckoned-same p (doing f c) f k j (doing-other f c j ne) h)
+    | no ne ↦ inr (sym (reckoned-same p (doing f c) f k j (doing-other f c j ne)) ∙ h)
   ]
 
 -- two events done, in either sequence: the first of them has the same fate

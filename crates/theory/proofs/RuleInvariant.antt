@@ -118,6 +118,7 @@ unpaid s (Order a b) = false
 unpaid s (Need a b) = isDone (fateOf s a) && isGone (fateOf s b)
 unpaid s (Conditional a b c) = isDone (fateOf s a) && isDone (fateOf s b) && isGone (fateOf s c)
 
+-- less is asked for, and no less settled
 pub owed-less : (d d′ t t′ : Bool) → (d && not t) ≡ false → (d′ ≡ true → d ≡ true) → (t ≡ true → t′ ≡ true) → (d′ && not t′) ≡ false
 owed-less d true t t′ h fewer more = rw (more (not-false t (and-not d (not t) h (fewer refl))))
 owed-less d false t t′ h fewer more = refl

@@ -24,7 +24,7 @@ use Rattle.scheduler.specs.Demand.{unbreakable, startsDone}
 use Rattle.scheduler.specs.Grounds.{NoViable}
 use Rattle.plan.proofs.Tests.{clash, either, or-left, or-right, or-both, and-left, and-right, and-both, and-not}
 use Rattle.plan.proofs.Fates.{open-is}
-use Rattle.orders.proofs.Doing.{done-settled}
+use Rattle.orders.proofs.Doing.{done-settled, reckoned-same}
 use Rattle.scheduler.proofs.Laws.{turn-settled, fate-settle-other, closed-settle, broken-settle, plan-hold, fate-hold-other, closed-hold, broken-hold, lines-hold}
 use Rattle.scheduler.proofs.Laws.{plan-break, fate-break, closed-break, history-break, len-break, lines-break, broken-break-same, broken-break-other, sized-break}
 use Rattle.scheduler.proofs.Branches.{decide-order, decide-refuse, decide-alone, submit-delayed, submit-decided}
@@ -32,7 +32,7 @@ use Rattle.scheduler.proofs.Searching.{ready-unsettled, member-settled, chosen-
 use Rattle.scheduler.proofs.Settling.{settle-turns}
 use Rattle.theory.specs.Waiting.{Awaits}
 use Rattle.theory.proofs.SoundPlans.{Sound, rule-enforced}
-use Rattle.theory.proofs.Waits.{awaits-other, reckoned-refusable, reckoned-at}
+use Rattle.theory.proofs.Waits.{awaits-other, reckoned-refusable}
 use Rattle.theory.proofs.HistoryInvariant.{Shape, HistoryListed, BlankBeyond, listing-alike, same-events, shape-settle, fate-then, lines-then, listing-settle, beyond-settle, fate-held, as-held, listing-hold}
 use Rattle.theory.proofs.RuleInvariant.{NoStanding, RulesObeyed, Strict, Quiet, SameToRules, obeyed-same, quiet-same, unpaid, unpaid-same}
 use Rattle.theory.proofs.RuleInvariant.{Covered, not-done, delayable-same, settled-stays, open-then, done-then, gone-then, owed-less, obeyed-do, obeyed-done, obeyed-drop, quiet-drop}
@@ -273,7 +273,7 @@ module _ {p : Plan} {s : State} (sd : Sound p) (e : ℕ) (k : HistoryListed p s)
         (settled-stays Done e refl k lt un b))
 
     reckoned-else : (a c : ℕ) → eqb e a ≡ false → reckoned (s .plan) (fateOf g) c a ≡ reckoned (s .plan) (fateOf s) c a
-    reckoned-else a c z = reckoned-at (s .plan) (fateOf g) (fateOf s) c a (fate-settle-other Done s e a (λ y. eqb-false e a z (sym y)))
+    reckoned-else a c z = reckoned-same (s .plan) (fateOf g) (fateOf s) c a (fate-settle-other Done s e a (λ y. eqb-false e a z (sym y)))
 
     conditional-else : (a b c : ℕ)
         → eqb e a ≡ false

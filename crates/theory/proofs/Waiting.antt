@@ -15,7 +15,7 @@ use Rattle.scheduler.specs.Demand.{unbreakable}
 use Rattle.theory.specs.Waiting.{Provides, BreaksOnly, plainBars, plainOwes, Plain, Unwaiting, of-order, of-need, forcible-c, stoppable, WaitEnds}
 use Rattle.plan.proofs.Tests.{clash, either, or-left, or-right}
 use Rattle.scheduler.proofs.Grounds.{grounded}
-use Rattle.theory.proofs.Waits.{awaits-other}
+use Rattle.theory.proofs.Waits.{awaits-other, reckoned-stopped, refusable-stops}
 use Rattle.theory.proofs.RuleInvariant.{settled-closed, provided-of}
 use Rattle.theory.proofs.Coherence.{coherent-sound, sized-call}
 use Rattle.theory.proofs.Demands.{at-list, demand3}
@@ -27,7 +27,7 @@ provides bytes s cs read o t c w comes did =
     let k = at-list bytes s cs read in
     provided-of (k .invariant .listing .shape) (k .invariant .quiet) (k .strict) o t c w (ap isOpen comes) did
 
--- a conditional that is broken may be broken
+-- a conditional that is broken is none that demand 3 protects
 pub breaks-only : BreaksOnly scheduler
 unfolding unbreakable
 breaks-only bytes s cs i a b c read l is h =
@@ -58,10 +58,6 @@ module _ (p : Plan) (f : Fates) where
     same-owes = rw (x, y) (ap (λ t. t && not (isSettled (f c))) (twice (isDone (f a)) (isDone (f b))));
   }
 
-  reckoned-stopped : (c t : ℕ) → unstoppable p f t ≡ false → reckoned p f c t ≡ isDone (f t)
-  unfolding reckoned
-  reckoned-stopped c t h = rw h (or-false (isDone (f t)))
-
   reckoned-forcible : (c t : ℕ) → forcible p c ≡ true → reckoned p f c t ≡ isDone (f t)
   unfolding reckoned
   reckoned-forcible c t h = rw (h, and-false (unstoppable p f t)) (or-false (isDone (f t)))
@@ -71,16 +67,13 @@ module _ (p : Plan) (f : Fates) where
   plain r (of-order {a = a} {b = b}) = record { same-bars = λ e. refl; same-owes = refl }
   plain r (of-need {a = a} {b = b}) = record { same-bars = λ e. refl; same-owes = refl }
   plain r (forcible-c {a = a} {b = b} {c = c} h) = plain-conditional a b c (reckoned-forcible c a h) (reckoned-forcible c b h)
-  plain r (stoppable {a = a} {b = b} {c = c} x y) = plain-conditional a b c (reckoned-stopped c a x) (reckoned-stopped c b y)
+  plain r (stoppable {a = a} {b = b} {c = c} x y) =
+      plain-conditional a b c (reckoned-stopped p f c a x) (reckoned-stopped p f c b y)
 
-  -- nothing can stop an event only while it is open, and never one that can be refused
+  -- nothing can stop an event only while it is open
   closed-stops : (t : ℕ) → isOpen (f t) ≡ false → unstoppable p f t ≡ false
   unfolding unstoppable
   closed-stops t h = rw h
-
-  refusable-stops : (t : ℕ) → rejectable p t ≡ true → unstoppable p f t ≡ false
-  unfolding unstoppable
-  refusable-stops t h = rw (h, and-false (isOpen (f t)))
 
 -- an event that is not open does not become so in a list
 list-unopened : (s : State) (cs : List Call) → Sized s → (e : ℕ) → isOpen (fateOf s e) ≡ false → isOpen (fateOf (after scheduler s cs) e) ≡ false

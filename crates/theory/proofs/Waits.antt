@@ -1,14 +1,14 @@
--- A conditional that makes a trigger wait: what it bars and owes meanwhile; and what a rule bars and owes at least, and
--- where no more.
+-- A conditional that makes a trigger wait: what it bars and owes meanwhile, which triggers it reckons with only if they
+-- are done, and what a rule bars and owes at least.
 use Prim.Native.Nat.{ℕ}
 use borrow.Author.Tests.{eq-eqb}
 use mathlib.Core.Bool.{Bool, true, false, not, _&&_, _||_, and-false, or-false}
 use mathlib.Core.Logic.{inl, inr}
-use mathlib.Core.Path.{_≡_, refl, ap}
+use mathlib.Core.Path.{_≡_, refl}
 use lib.Dec.{eqb}
 use Rattle.theory.proofs.Types.{Rule, Order, Need, Conditional, Plan}
 use Rattle.plan.specs.Fates.{Fates, isOpen, isDone, isGone, isSettled}
-use Rattle.plan.specs.Plans.{ruleAt, forcible, rejectable, delayable}
+use Rattle.plan.specs.Plans.{ruleAt, forcible, rejectable}
 use Rattle.plan.specs.Rules.{enforceable, unstoppable, reckoned, triggered, bars, owes}
 use Rattle.scheduler.specs.Demand.{unbreakable}
 use Rattle.theory.specs.Waiting.{Awaits, plainBars, plainOwes}
@@ -57,15 +57,18 @@ module _ {p : Plan} {o t c : ℕ} (w : Awaits p o t c) where
       | inr q ↦ rw (q, d, u, reckons, or-right-true (isDone (f t) && reckoned p f c o))
     ]
 
--- a trigger that can be refused is reckoned with only if it is done; and what is reckoned with goes by its own fate
-pub reckoned-refusable : (p : Plan) (f : Fates) (c t : ℕ) → rejectable p t ≡ true → reckoned p f c t ≡ isDone (f t)
-unfolding reckoned unstoppable
-reckoned-refusable p f c t h = rw (h, and-false (isOpen (f t))) (or-false (isDone (f t)))
+-- what something can stop is reckoned with only if it is done, such as what can be refused
+module _ (p : Plan) (f : Fates) where
+  pub reckoned-stopped : (c t : ℕ) → unstoppable p f t ≡ false → reckoned p f c t ≡ isDone (f t)
+  unfolding reckoned
+  reckoned-stopped c t h = rw h (or-false (isDone (f t)))
 
-pub reckoned-at : (p : Plan) (f g : Fates) (c t : ℕ) → f t ≡ g t → reckoned p f c t ≡ reckoned p g c t
-unfolding reckoned unstoppable
-reckoned-at p f g c t q =
-    ap (λ x. isDone x || ((isOpen x && not (rejectable p t) && not (delayable p t)) && not (forcible p c))) q
+  pub refusable-stops : (t : ℕ) → rejectable p t ≡ true → unstoppable p f t ≡ false
+  unfolding unstoppable
+  refusable-stops t h = rw (h, and-false (isOpen (f t)))
+
+  pub reckoned-refusable : (c t : ℕ) → rejectable p t ≡ true → reckoned p f c t ≡ isDone (f t)
+  reckoned-refusable c t h = reckoned-stopped c t (refusable-stops t h)
 
 -- what is done is reckoned with
 wider-bars : (g ea eb da db ra rb : Bool)
