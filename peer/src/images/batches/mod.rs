@@ -13,6 +13,7 @@ pub use outcome::{agree, one_by_one, Batch, Outcome};
 
 use super::runs::{listed, Before, Run};
 use crate::library::raw::Entry;
+use crate::peer::calls::Call;
 use crate::random::{batch, batch_length, single_calls, Made, Random};
 
 /// The batches of the test.
@@ -22,6 +23,8 @@ const CALLS_PERCENT: u64 = 60;
 const DAMAGE_PERCENT: u64 = 12;
 const MOST_BATCHES: usize = 4;
 const MOST_CALLS: usize = 12;
+/// More than a count, a number or a fate can be.
+pub const FILL: u8 = 0xa5;
 
 /// Compares a library's batches with the peer's, `count` of them or a few more, up to
 /// the first difference.
@@ -82,4 +85,22 @@ fn lent(random: &mut Random, made: &Made) -> Vec<Entry> {
         fate: random.byte(),
     });
     filled.collect()
+}
+
+/// The calls as entries that have no answer yet. A winding up is no entry, and is turned down.
+pub fn unanswered(calls: &[Call]) -> Vec<Entry> {
+    let entry = |call: &Call| {
+        let (kind, number) = match *call {
+            Call::Submit(event) => (16, event),
+            Call::CloseStep(step) => (17, step),
+            Call::Finish => (18, 0),
+        };
+        Entry {
+            kind,
+            number,
+            refused: FILL,
+            fate: FILL,
+        }
+    };
+    calls.iter().map(entry).collect()
 }

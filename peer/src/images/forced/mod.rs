@@ -20,7 +20,7 @@ mod outcome;
 pub use met::Tally;
 pub use outcome::{Make, Outcome, Ways, LIBRARY};
 
-use super::batches;
+use super::batches::{self, unanswered, FILL};
 use super::brought::{brought_over, scheduler};
 use super::layout::{first, Image, STEP};
 use super::previews::{self, Counts};
@@ -39,8 +39,6 @@ pub const COUNT: usize = 25_000;
 const BROUGHT_PERCENT: u64 = 30;
 const EARLY_PERCENT: u64 = 15;
 const MOST_CALLS: usize = 40;
-/// More than a count, a number or a fate can be.
-const FILL: u8 = 0xa5;
 
 /// A state and the calls to make on it.
 pub struct Case {
@@ -106,7 +104,7 @@ impl Case {
     /// The list made at once, with what its entries are answered. A winding up is no entry
     /// and is turned down.
     fn as_batch(&self) -> Result<Vec<Entry>, String> {
-        let lent: Vec<Entry> = self.calls.iter().map(entry).collect();
+        let lent = unanswered(&self.calls);
         let mut peer = scheduler(&self.start);
         let outcome = batches::agree(raw::submit_all, &self.start, peer.as_mut(), &lent)?;
         Ok(outcome.lent().to_vec())
@@ -136,19 +134,4 @@ fn preview(ways: &Ways, event: u8) -> Result<Counts, String> {
         0 => outcome.added(),
         _ => [0; 4],
     })
-}
-
-/// The call as an entry that has no answer yet.
-fn entry(call: &Call) -> Entry {
-    let (kind, number) = match *call {
-        Call::Submit(event) => (16, event),
-        Call::CloseStep(step) => (17, step),
-        Call::Finish => (18, 0),
-    };
-    Entry {
-        kind,
-        number,
-        refused: FILL,
-        fate: FILL,
-    }
 }

@@ -4,14 +4,14 @@
 //! states like any other.
 
 use super::sides::{is_done, sides, Side, HELD, OPEN};
-use super::{entry, FILL};
 use crate::compare::{hex, missing};
+use crate::images::batches::{self, unanswered, FILL};
 use crate::images::brought::scheduler;
 use crate::images::damaged::{self, Functions};
 use crate::images::forced::Outcome;
 use crate::images::layout::*;
 use crate::images::sound::is_sound;
-use crate::images::{batches, previews, sheets};
+use crate::images::{previews, sheets};
 use crate::library::{raw, LONGEST_SHEET};
 use crate::peer::calls::Call;
 use crate::random::{waiting_calls, waiting_sheet, Random};
@@ -126,7 +126,7 @@ fn others(image: &Image, calls: &[Call]) -> Result<(), String> {
     for event in 0..image[EVENTS] {
         previews::agree(previews::LIBRARY, image, peer.as_ref(), event, [FILL; 4])?;
     }
-    let lent: Vec<raw::Entry> = calls.iter().map(entry).collect();
+    let lent = unanswered(calls);
     batches::agree(raw::submit_all, image, peer.clone().as_mut(), &lent)?;
     let fill = [FILL; LONGEST_SHEET];
     sheets::agree(sheets::LIBRARY, image, peer.as_ref(), &fill)?;

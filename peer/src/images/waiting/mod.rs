@@ -21,7 +21,7 @@ mod sides;
 pub use met::Tally;
 pub use sides::{kept, sides, Side};
 
-use super::batches;
+use super::batches::{self, unanswered, FILL};
 use super::brought::{brought_over, scheduler};
 use super::damaged;
 use super::forced::{Make, Outcome};
@@ -30,7 +30,7 @@ use super::previews;
 use super::runs::Origin;
 use super::sheets;
 use crate::compare::hex;
-use crate::library::raw::{self, Entry};
+use crate::library::raw;
 use crate::library::{self, LONGEST_SHEET};
 use crate::peer as second;
 use crate::peer::calls::Call;
@@ -46,8 +46,6 @@ pub const COUNT: usize = 60_000;
 const BROUGHT_PERCENT: u64 = 15;
 /// The lists that end with a byte that is no call.
 const CUT_PERCENT: u64 = 4;
-/// More than a count, a number or a fate can be.
-const FILL: u8 = 0xa5;
 
 /// The library's single calls and its whole lists, or others in their place.
 #[derive(Clone, Copy)]
@@ -161,7 +159,7 @@ impl Case {
 
     /// The list made at once. A winding up is no entry and is turned down.
     fn as_batch(&self, tally: &mut Tally) -> Result<(), String> {
-        let lent: Vec<Entry> = self.calls.iter().map(entry).collect();
+        let lent = unanswered(&self.calls);
         let mut peer = scheduler(&self.start);
         let outcome = batches::agree(raw::submit_all, &self.start, peer.as_mut(), &lent)?;
         if outcome.number == 0 {
@@ -235,19 +233,4 @@ fn preview_all(image: &Image, peer: &Scheduler, tally: &mut Tally) -> Result<(),
         tally.add_preview(outcome.added());
     }
     Ok(())
-}
-
-/// The call as an entry that has no answer yet.
-fn entry(call: &Call) -> Entry {
-    let (kind, number) = match *call {
-        Call::Submit(event) => (16, event),
-        Call::CloseStep(step) => (17, step),
-        Call::Finish => (18, 0),
-    };
-    Entry {
-        kind,
-        number,
-        refused: FILL,
-        fate: FILL,
-    }
 }
