@@ -7,13 +7,13 @@ use peer::images::batches::{agree, compare, Batch, COUNT};
 use peer::images::brought::scheduler;
 use peer::images::layout::{first, Image, FATE, LINES, LINE_EVENT, LINE_FATE, SPARE};
 use peer::images::marks::bare;
+use peer::images::FILL;
 use peer::library::raw::{self, Entry};
 use peer::library::STATE_LEN;
 use peer::peer::batch::MOST;
 
 /// Everything that the comparison is about has to be met this often.
 const LEAST: usize = 150;
-const FILL: u8 = 0xa5;
 
 #[test]
 fn every_batch_agrees_with_peer() {

@@ -11,7 +11,7 @@ use peer::images::forced::{compare, Make, Ways, COUNT, LIBRARY};
 use peer::images::layout::*;
 use peer::images::marks::{unmarked, DONE, FORCED, FORCIBLE};
 use peer::images::runs::led_to;
-use peer::images::{batches, previews};
+use peer::images::{batches, previews, FILL};
 use peer::library::raw::{self, Entry};
 use peer::library::{self, State};
 use peer::peer::calls::Call;
@@ -22,7 +22,6 @@ use Call::{CloseStep, Submit};
 
 /// Everything that the comparison is about has to be met this often.
 const LEAST: usize = 150;
-const FILL: u8 = 0xa5;
 
 #[test]
 fn forced_events_are_shown_and_nothing_else_is_new() {

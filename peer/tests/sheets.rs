@@ -7,6 +7,7 @@ use peer::images::brought::{as_sheet, leftovers, scheduler};
 use peer::images::layout::{Image, ATTRIBUTES, EVENTS, LINES, RULES, STEP};
 use peer::images::runs::led_to;
 use peer::images::sheets::{agree, compare, reads_back, written_alike, Write, COUNT, LIBRARY};
+use peer::images::FILL;
 use peer::library::{raw, STATE_LEN};
 use peer::peer::sheet::{records, Sheet};
 use peer::peer::write::LONGEST;
@@ -15,7 +16,6 @@ use peer::random::Random;
 /// Everything that the comparison is about has to be met this often, and each number.
 const LEAST: usize = 150;
 const LEAST_OF_NUMBER: usize = 2_000;
-const FILL: u8 = 0xa5;
 
 #[test]
 fn every_sheet_written_agrees_with_peer() {

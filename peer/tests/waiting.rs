@@ -17,7 +17,7 @@ use peer::images::marks::{DONE, FORCED};
 use peer::images::sound::is_sound;
 use peer::images::waiting::damage::{self, put_fate};
 use peer::images::waiting::{compare, kept, sides, Functions, COUNT, LIBRARY};
-use peer::images::{batches, previews, sheets};
+use peer::images::{batches, previews, sheets, FILL};
 use peer::library::raw::{self, Entry};
 use peer::library::{self, LONGEST_REPORT, LONGEST_SHEET};
 use peer::peer::calls::Call;
@@ -33,7 +33,6 @@ const LEAST: usize = 200;
 const LEAST_DECIDED: usize = 12_000;
 /// Trying every order takes too long among more events than these.
 const MOST: usize = 6;
-const FILL: u8 = 0xa5;
 
 const OPEN: u8 = 0;
 const HELD: u8 = 1;

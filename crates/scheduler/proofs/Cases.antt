@@ -6,7 +6,8 @@ use mathlib.Core.List.{List, [], _∷_, _++_, map}
 use mathlib.Core.Path.{_≡_, refl}
 use Rattle.plan.proofs.FormatCases.{times, sixteenEvents}
 use lib.ListN.{take, replicate}
-use Rattle.scheduler.specs.Prelude.{Fate, Held, Done, Refused, Lapsed, Forced, Need, Plan, State, Answer, Is, Made, TurnedDown, Unknown, AlreadyClosed, NotClosed, Incoherent, Admitted, Faulty, Call, Submit, Close, Finish}
+use Rattle.scheduler.specs.Prelude.{Fate, Held, Done, Refused, Lapsed, Forced, Need, Plan, State, Call, Submit, Close, Finish}
+use Rattle.scheduler.specs.Prelude.{Answer, Is, Made, TurnedDown, Unknown, AlreadyClosed, NotClosed, Incoherent, Admitted, Faulty}
 use Rattle.plan.specs.Base.{anyBelow, allBelow, countBelow, firstOf, tabulate, lowest}
 use Rattle.plan.specs.Plans.{ruleCount, emptyPlan, hasEvent}
 use Rattle.scheduler.specs.State.{firstState, emptyState, lines, hold, settleAs, shut, breakRule}
@@ -178,7 +179,9 @@ cases =
     ∷ (
       times 4 (1 ∷ 7 ∷ 6 ∷ []) ++ (2 ∷ 0 ∷ 1 ∷ 2 ∷ 1 ∷ 0 ∷ 2 ∷ 2 ∷ 3 ∷ 2 ∷ 3 ∷ 2 ∷ 5 ∷ []),
       Submit 0 ∷ Submit 1 ∷ Submit 2 ∷ Submit 3 ∷ Finish ∷ Close 7 ∷ Close 7 ∷ Finish ∷ [],
-      ran (Is Held ∷ Is Held ∷ Is Held ∷ Is Held ∷ TurnedDown NotClosed ∷ Made ∷ TurnedDown AlreadyClosed ∷ Made ∷ []) ((0, Refused) ∷ (1, Done) ∷ (2, Refused) ∷ (3, Done) ∷ []) (replicate 4 false),
+      ran
+          (Is Held ∷ Is Held ∷ Is Held ∷ Is Held ∷ TurnedDown NotClosed ∷ Made ∷ TurnedDown AlreadyClosed ∷ Made ∷ [])
+          ((0, Refused) ∷ (1, Done) ∷ (2, Refused) ∷ (3, Done) ∷ []) (replicate 4 false),
     )
     -- an event that is not delayable goes by its own order before anything is settled: 1, 0, where A has 0, 1
     ∷ (

@@ -1,6 +1,7 @@
 -- Demand 3, of any scheduler. Its words are read off the plan, the calls and the history after each call: they cite
 -- the rules and `Viable`, and neither the search nor the calls of Orders.antt and Calls.antt.
-use Rattle.scheduler.specs.Prelude.{ℕ, _≤_, _<_, Bool, true, false, not, _&&_, _||_, List, [], _∷_, _++_, _≡_, eqb, ltb, length, getD, drop, Fate, Open, Held, Rule, Order, Need, Conditional, Plan, Entry, State, Call, Submit, Close, Finish}
+use Rattle.scheduler.specs.Prelude.{ℕ, _≤_, _<_, Bool, true, false, not, _&&_, _||_, List, [], _∷_, _++_, _≡_, eqb, ltb, length, getD, drop}
+use Rattle.scheduler.specs.Prelude.{Fate, Open, Held, Rule, Order, Need, Conditional, Plan, Entry, State, Call, Submit, Close, Finish}
 use Rattle.plan.specs.Base.{allBelow, thoseBelow, among, tabulate}
 use Rattle.plan.specs.Fates.{isOpen, isDone, isSettled}
 use Rattle.plan.specs.Plans.{eventCount, ruleCount, ruleAt, forcible, rejectable, hasEvent}

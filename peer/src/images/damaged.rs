@@ -6,6 +6,7 @@ use super::brought::scheduler;
 use super::layout::*;
 use super::marks::{at_odds, has_forced, marked_otherwise, DONE, FORCED};
 use super::sound::is_sound;
+use super::FILL;
 use crate::compare::{hex, missing, numbered};
 use crate::library::{raw, State, LONGEST_REPORT, STATE_LEN};
 use crate::peer::calls::{Answer, Call, Run};
@@ -24,7 +25,6 @@ const FATE_PERCENT: u64 = 12;
 const REFUSED: usize = 7;
 /// The least number that is no fate.
 const NO_FATE: u8 = 6;
-const FILL: u8 = 0xa5;
 pub const INCOHERENT: u8 = 12;
 
 /// What is called on the bytes.

@@ -23,3 +23,7 @@ pub mod sheets;
 pub mod single;
 pub mod sound;
 pub mod waiting;
+
+/// What is lent holds this before the library may write it: more than a count, a number or
+/// a fate can be.
+pub const FILL: u8 = 0xa5;

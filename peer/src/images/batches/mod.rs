@@ -12,6 +12,7 @@ pub use met::Tally;
 pub use outcome::{agree, one_by_one, Batch, Outcome};
 
 use super::runs::{listed, Before, Run};
+use super::FILL;
 use crate::library::raw::Entry;
 use crate::peer::calls::Call;
 use crate::random::{batch, batch_length, single_calls, Made, Random};
@@ -23,8 +24,6 @@ const CALLS_PERCENT: u64 = 60;
 const DAMAGE_PERCENT: u64 = 12;
 const MOST_BATCHES: usize = 4;
 const MOST_CALLS: usize = 12;
-/// More than a count, a number or a fate can be.
-pub const FILL: u8 = 0xa5;
 
 /// Compares a library's batches with the peer's, `count` of them or a few more, up to
 /// the first difference.

@@ -20,11 +20,12 @@ mod outcome;
 pub use met::Tally;
 pub use outcome::{Make, Outcome, Ways, LIBRARY};
 
-use super::batches::{self, unanswered, FILL};
+use super::batches::{self, unanswered};
 use super::brought::{brought_over, scheduler};
 use super::layout::{first, Image, STEP};
 use super::previews::{self, Counts};
 use super::runs::Origin;
+use super::FILL;
 use crate::compare::hex;
 use crate::library::raw::{self, Entry};
 use crate::peer::calls::Call;

@@ -5,13 +5,13 @@
 
 use super::sides::{is_done, sides, Side, HELD, OPEN};
 use crate::compare::{hex, missing};
-use crate::images::batches::{self, unanswered, FILL};
+use crate::images::batches::{self, unanswered};
 use crate::images::brought::scheduler;
 use crate::images::damaged::{self, Functions};
 use crate::images::forced::Outcome;
 use crate::images::layout::*;
 use crate::images::sound::is_sound;
-use crate::images::{previews, sheets};
+use crate::images::{previews, sheets, FILL};
 use crate::library::{raw, LONGEST_SHEET};
 use crate::peer::calls::Call;
 use crate::random::{waiting_calls, waiting_sheet, Random};

@@ -21,7 +21,7 @@ mod sides;
 pub use met::Tally;
 pub use sides::{kept, sides, Side};
 
-use super::batches::{self, unanswered, FILL};
+use super::batches::{self, unanswered};
 use super::brought::{brought_over, scheduler};
 use super::damaged;
 use super::forced::{Make, Outcome};
@@ -29,6 +29,7 @@ use super::layout::{first, Image};
 use super::previews;
 use super::runs::Origin;
 use super::sheets;
+use super::FILL;
 use crate::compare::hex;
 use crate::library::raw;
 use crate::library::{self, LONGEST_SHEET};
