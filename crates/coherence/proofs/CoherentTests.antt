@@ -12,7 +12,7 @@ use Rattle.coherence.specs.Prelude.{Fate, Event, Rule, Order, Need, Cond
 use Rattle.plan.specs.Base.{readAt, allBelow}
 use Rattle.plan.specs.Fates.{Fates, isOpen, isHeld, isDone, isGone, isSettled, blankStanding, fatesOf}
 use Rattle.plan.specs.Plans.{blankEvent, blankRule, holdsBit, eventCount, ruleCount, eventAt, stepOf, ruleAt, forcible, delayable}
-use Rattle.plan.specs.Rules.{badStep, badAttributes, named, enforceable, soundEvent, soundRule, unstoppable, reckoned, triggered, owes}
+use Rattle.plan.specs.Rules.{badStep, badAttributes, named, enforceable, soundEvent, soundRule, unstoppable, reckoned, triggered, owes, soundWindows}
 use Rattle.plan.specs.Histories.{doneIn, doneInTurn, holds, declaredOnly, listedAs}
 use Rattle.coherence.specs.Listings.{Placed, placeIn, Marked}
 use Rattle.coherence.specs.Cohering.{eventCoheres, eventsCohere, ruleCoheres, rulesCohere, coheres, awaits}
@@ -365,6 +365,6 @@ module _ (p : Plan) (len : ℕ) where
     pub rules-decide : not few ≡ false
         → declared ≡ true
         → events ≡ true
-        → coheres p f broken closed h len ≡ rulesCohere p f broken h
+        → coheres p f broken closed h len ≡ (rulesCohere p f broken h && soundWindows p)
     unfolding coheres
     rules-decide is d e = rw (not-false few is, d, e)

@@ -2,3 +2,4 @@
 pub mod Lines
 pub mod Listings
 pub mod CoherentTests
+pub mod WindowTests

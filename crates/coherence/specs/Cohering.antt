@@ -1,10 +1,10 @@
 -- Number 12 of the parts of a state: a plan, the fates of its events, which rules are recorded as broken and which steps
 -- are closed, and a history with its length.
-use Rattle.coherence.specs.Prelude.{ℕ, Bool, false, not, _&&_, _||_, List, leb, Rule, Order, Need, Conditional, Plan, Entry}
+use Rattle.coherence.specs.Prelude.{ℕ, Bool, false, not, _&&_, _||_, List, eqb, ltb, leb, Rule, Order, Need, Conditional, Window, Plan, Entry}
 use Rattle.plan.specs.Base.{allBelow, readAt}
 use Rattle.plan.specs.Fates.{Fates, isOpen, isHeld, isSettled}
-use Rattle.plan.specs.Plans.{eventCount, ruleCount, stepOf, ruleAt, forcible, delayable}
-use Rattle.plan.specs.Rules.{soundEvent, soundRule, unstoppable, owes}
+use Rattle.plan.specs.Plans.{eventCount, ruleCount, stepOf, ruleAt, holdsBit, forcible, delayable}
+use Rattle.plan.specs.Rules.{soundEvent, soundRule, soundWindows, unstoppable, owes}
 use Rattle.plan.specs.Histories.{doneIn, holds, declaredOnly, listedAs}
 
 -- a sheet could declare the event, the history lists it as its fate asks for, it may wait if it is held, and its step is
@@ -39,6 +39,12 @@ awaits p f h (Conditional a b c) =
     && not (forcible p c)
     && not (isSettled (f c))
 
+-- no window, or one of a declared event with these attributes that a sheet could give it (10.4)
+unfoldable pub rightAs : Bool → ℕ → Window → Bool
+rightAs declared a w =
+    (eqb (w .from) 0 && eqb (w .until) 0)
+    || (declared && holdsBit 4 a && ltb (w .from) (w .until))
+
 -- number 12 does not apply to these parts (10.4, 10.5)
 unfoldable pub coheres : Plan → Fates → List Bool → List Bool → List Entry → ℕ → Bool
 coheres p f broken closed h len =
@@ -48,3 +54,4 @@ coheres p f broken closed h len =
     && declaredOnly h (eventCount p)
     && eventsCohere p f closed h
     && rulesCohere p f broken h
+    && soundWindows p

@@ -17,6 +17,7 @@ use plan::plan::Plan;
 use plan::rule::Rule;
 use plan::rule::are_named;
 use plan::rule::is_enforceable;
+use plan::window::Window;
 ghost use mathlib.Core.Bool.{Bool, true, not, _&&_};
 ghost use mathlib.Core.List.{List};
 ghost use mathlib.Core.Path.{_≡_};
@@ -24,10 +25,10 @@ ghost use Prim.Native.Nat.{ℕ, _≤_};
 ghost use lib.ListN.{take};
 ghost use Rattle.plan.specs.Fates.{isOpen, isHeld, fatesOf};
 ghost use Rattle.plan.specs.Plans.{holdsBit, eventCount, ruleCount};
-ghost use Rattle.plan.specs.Rules.{badStep, badAttributes, named, enforceable};
+ghost use Rattle.plan.specs.Rules.{badStep, badAttributes, named, enforceable, soundWindows};
 ghost use Rattle.plan.specs.Histories.{holds};
 ghost use Rattle.coherence.specs.Listings.{Placed, placeIn, Marked};
-ghost use Rattle.coherence.specs.Cohering.{eventsCohere, rulesCohere, coheres, awaits};
+ghost use Rattle.coherence.specs.Cohering.{eventsCohere, rulesCohere, coheres, awaits, rightAs};
 
 // Do the parts of a state hang together? Where they do not, number 12 applies.
 pub fn does_cohere(
@@ -54,7 +55,34 @@ pub fn does_cohere(
     if !are_events_coherent(plan, standings, closed, listed) {
         return false;
     }
-    are_rules_coherent(plan, standings, broken, places)
+    are_rules_coherent(plan, standings, broken, places) & are_windows_sound(plan)
+}
+
+// Is there no window, or one that a sheet could give, in every event's place?
+fn are_windows_sound(plan: Plan) -> bool
+    ensures { λ r. ⌜ r ≡ soundWindows plan ⌝ }
+{
+    let event_count = plan.event_count;
+    let events = plan.events;
+    let windows = plan.windows;
+    let mut e: u8 = 0;
+    while e < 16 {
+        let window = windows[e as usize];
+        let event = events[e as usize];
+        if !is_right(window, e < event_count, event.attributes) {
+            return false;
+        }
+        e += 1;
+    }
+    true
+}
+
+// No window; or one of a declared event that may wait, which ends after it begins.
+fn is_right(window: Window, declared: bool, attributes: u8) -> bool
+    ensures { λ r. ⌜ r ≡ rightAs declared attributes window ⌝ }
+{
+    ((window.from == 0) & (window.until == 0))
+        | (declared & is_delayable(attributes) & (window.from < window.until))
 }
 
 // Do the declared events hang together with the history and the steps? `listed` says which have a line.

@@ -1,8 +1,8 @@
 -- Every number of a state's image is a byte, where the state's own numbers are.
-use Prim.Native.Nat.{ℕ, zero, suc, _+_, _≤_, _<_}
+use Prim.Native.Nat.{ℕ, zero, suc, _+_, _/_, _%_, _≤_, _<_}
 use native.Mathlib.Omega.{arith}
 use borrow.Author.Tests.{ltb-true, lt-ltb}
-use mathlib.Core.Bool.{Bool, true}
+use mathlib.Core.Bool.{Bool, true, _&&_}
 use mathlib.Core.List.{List, [], _∷_, _++_}
 use mathlib.Core.Path.{_≡_, refl}
 use lib.Dec.{ltb}
@@ -11,12 +11,13 @@ use lib.Pow.{areBytes}
 use Rattle.image.specs.Types.{Fate, State, Rule, Order, Need, Conditional}
 use Rattle.plan.specs.Base.{oneIf, tabulate, allBelow}
 use Rattle.plan.specs.Fates.{fateNumber}
-use Rattle.plan.specs.Plans.{eventCount, ruleCount, stepOf, attributesOf, ruleAt}
+use Rattle.plan.specs.Plans.{eventCount, ruleCount, stepOf, attributesOf, ruleAt, windowAt}
 use Rattle.plan.proofs.Tests.{and-left, and-right, and-both, all-at}
-use Rattle.theory.proofs.Conjunctions.{and-four}
+use Rattle.theory.proofs.Conjunctions.{and-three, and-four}
 use Rattle.scheduler.specs.State.{fateOf, brokenAt, closedAt, lineCount}
-use Rattle.image.specs.Layout.{ruleKind, ruleA, ruleB, ruleC, placeOf, imageOf, isByte, placeFits, fits}
+use Rattle.image.specs.Layout.{ruleKind, ruleA, ruleB, ruleC, placeOf, wordByte, rowByte, imageOf, isByte, isWord, placeFits, fits}
 use Rattle.image.proofs.Numbers.{fate-low, mark-low}
+use Rattle.image.proofs.Words.{word-byte}
 use Rattle.image.proofs.Images.{and-six}
 
 bytes-append : (l m : List ℕ) → areBytes l ≡ true → areBytes m ≡ true → areBytes (l ++ m) ≡ true
@@ -68,7 +69,25 @@ module _ (s : State) (h : fits s ≡ true) where
       × (isByte (lineCount s) ≡ true)
       × (allBelow 16 (placeFits s) ≡ true)
   unfolding fits
-  counts = and-four (isByte (eventCount (s .plan))) (isByte (ruleCount (s .plan))) (isByte (lineCount s)) (allBelow 16 (placeFits s)) h
+  counts = and-four (isByte (eventCount (s .plan))) (isByte (ruleCount (s .plan))) (isByte (lineCount s)) (allBelow 16 (placeFits s)) (and-left (isByte (eventCount (s .plan)) && isByte (ruleCount (s .plan)) && isByte (lineCount s) && allBelow 16 (placeFits s)) (isWord (s .minute)) h)
+
+  minute-fits : isWord (s .minute) ≡ true
+  unfolding fits
+  minute-fits = and-right (isByte (eventCount (s .plan)) && isByte (ruleCount (s .plan)) && isByte (lineCount s) && allBelow 16 (placeFits s)) (isWord (s .minute)) h
+
+  -- the tests of a place before those of its window
+  abbrev oldFits : ℕ → Bool
+  oldFits i =
+      isByte (stepOf (s .plan) i)
+      && isByte (attributesOf (s .plan) i)
+      && isByte (ruleA (ruleAt (s .plan) i))
+      && isByte (ruleB (ruleAt (s .plan) i))
+      && isByte (ruleC (ruleAt (s .plan) i))
+      && isByte (placeOf s i .event)
+
+  parts : (i : ℕ) → i < 16 → (oldFits i ≡ true) × (isWord (windowAt (s .plan) i .from) ≡ true) × (isWord (windowAt (s .plan) i .until) ≡ true)
+  unfolding placeFits
+  parts i lt = and-three (oldFits i) (isWord (windowAt (s .plan) i .from)) (isWord (windowAt (s .plan) i .until)) (all-at 16 (placeFits s) (counts .3) i lt)
 
   places : (i : ℕ) → i < 16
       → (isByte (stepOf (s .plan) i) ≡ true)
@@ -77,7 +96,6 @@ module _ (s : State) (h : fits s ≡ true) where
       × (isByte (ruleB (ruleAt (s .plan) i)) ≡ true)
       × (isByte (ruleC (ruleAt (s .plan) i)) ≡ true)
       × (isByte (placeOf s i .event) ≡ true)
-  unfolding placeFits
   places i lt = and-six
       (isByte (stepOf (s .plan) i))
       (isByte (attributesOf (s .plan) i))
@@ -85,7 +103,7 @@ module _ (s : State) (h : fits s ≡ true) where
       (isByte (ruleB (ruleAt (s .plan) i)))
       (isByte (ruleC (ruleAt (s .plan) i)))
       (isByte (placeOf s i .event))
-      (all-at 16 (placeFits s) (counts .3) i lt)
+      (parts i lt .0)
 
   image-all : AllBytes (imageOf s)
   unfolding imageOf
@@ -103,7 +121,10 @@ module _ (s : State) (h : fits s ≡ true) where
       let shuts = then 8 (λ k. oneIf (closedAt s k)) marks (λ k lt. mark-byte (closedAt s k)) in
       let lines = then 16 (λ n. placeOf s n .event) shuts (λ i lt. places i lt .5) in
       let all = then 16 (λ n. fateNumber (placeOf s n .fate)) lines (λ i lt. fate-byte (placeOf s i .fate)) in
-      then-zeros 212 all
+      let minutes = then 4 (λ k. wordByte (s .minute) k) all (λ k lt. word-byte (s .minute) k minute-fits lt) in
+      let froms = then 64 (λ i. rowByte (λ e. windowAt p e .from) i) minutes (λ i lt. word-byte (windowAt p (i / 4) .from) (i % 4) (parts (i / 4) (omega arith) .1) (omega arith)) in
+      let untils = then 64 (λ i. rowByte (λ e. windowAt p e .until) i) froms (λ i lt. word-byte (windowAt p (i / 4) .until) (i % 4) (parts (i / 4) (omega arith) .2) (omega arith)) in
+      then-zeros 80 untils
 
   pub image-bytes : areBytes (imageOf s) ≡ true
   image-bytes = image-all .are

@@ -1,17 +1,17 @@
 -- Bytes that show a state, place by place: they are its image.
-use Prim.Native.Nat.{ℕ, _+_, _≤_, _<_}
+use Prim.Native.Nat.{ℕ, _+_, _/_, _%_, _≤_, _<_}
 use native.Mathlib.Omega.{arith}
 use mathlib.Core.Bool.{false}
 use mathlib.Core.List.{List}
 use mathlib.Core.Path.{_≡_, refl, sym, _∙_, ap, subst}
 use lib.ListN.{length, getD, replicate, length-replicate, getD-replicate}
-use Rattle.image.specs.Types.{Event, RuleLine, Standing, Entry, Plan, State}
+use Rattle.image.specs.Types.{Event, RuleLine, Window, Standing, Entry, Plan, State}
 use Rattle.plan.specs.Base.{oneIf, tabulate, readAt}
 use Rattle.plan.specs.Fates.{fateNumber, blankStanding}
-use Rattle.plan.specs.Plans.{eventCount, ruleCount, stepOf, attributesOf, ruleAt, blankEvent, blankRule}
+use Rattle.plan.specs.Plans.{eventCount, ruleCount, stepOf, attributesOf, ruleAt, windowAt, blankEvent, blankRule, blankWindow}
 use Rattle.plan.specs.Histories.{blankEntry}
 use Rattle.scheduler.specs.State.{fateOf, brokenAt, closedAt, lineCount}
-use Rattle.image.specs.Layout.{stepAt, attributesAt, kindAt, aAt, bAt, cAt, fateAt, markAt, shutAt, lineEventAt, lineFateAt, spareAt, ruleKind, ruleA, ruleB, ruleC, placeOf, imageOf, byteAt}
+use Rattle.image.specs.Layout.{stepAt, attributesAt, kindAt, aAt, bAt, cAt, fateAt, markAt, shutAt, lineEventAt, lineFateAt, minuteAt, fromAt, untilAt, spareAt, ruleKind, ruleA, ruleB, ruleC, placeOf, wordByte, rowByte, imageOf, byteAt}
 use Rattle.image.specs.Internal.Writes.{written, planRows, callRows, withPlan, withCall}
 use Rattle.image.proofs.Rows.{read-get, length-written, rowOf, written-apart, written-row, split-off, split-last}
 
@@ -26,7 +26,9 @@ pub record ShowsPlan (p : Plan) (b : List ℕ) : Type 0 where
   pub first : (i : ℕ) → i < 16 → byteAt b (aAt + i) ≡ ruleA (ruleAt p i)
   pub second : (i : ℕ) → i < 16 → byteAt b (bAt + i) ≡ ruleB (ruleAt p i)
   pub third : (i : ℕ) → i < 16 → byteAt b (cAt + i) ≡ ruleC (ruleAt p i)
-  pub spare : (i : ℕ) → i < 212 → byteAt b (spareAt + i) ≡ 0
+  pub from : (i : ℕ) → i < 64 → byteAt b (fromAt + i) ≡ rowByte (λ e. windowAt p e .from) i
+  pub until : (i : ℕ) → i < 64 → byteAt b (untilAt + i) ≡ rowByte (λ e. windowAt p e .until) i
+  pub spare : (i : ℕ) → i < 80 → byteAt b (spareAt + i) ≡ 0
 
 -- and of what calls have changed
 pub record ShowsCalls (s : State) (b : List ℕ) : Type 0 where
@@ -36,6 +38,7 @@ pub record ShowsCalls (s : State) (b : List ℕ) : Type 0 where
   pub shut : (k : ℕ) → k < 8 → byteAt b (shutAt + k) ≡ oneIf (closedAt s k)
   pub line-event : (i : ℕ) → i < 16 → byteAt b (lineEventAt + i) ≡ placeOf s i .event
   pub line-fate : (i : ℕ) → i < 16 → byteAt b (lineFateAt + i) ≡ fateNumber (placeOf s i .fate)
+  pub minute : (k : ℕ) → k < 4 → byteAt b (minuteAt + k) ≡ wordByte (s .minute) k
 
 pub record Shows (s : State) (b : List ℕ) : Type 0 where
   pub plan : ShowsPlan (s .plan) b
@@ -66,11 +69,14 @@ module _ (s : State) (b : List ℕ) (z : length b ≡ 384) (h : Shows s b) where
       (split-off shutAt 8 _ b _ (omega (arith, z)) (h .calls .shut)
       (split-off lineEventAt 16 _ b _ (omega (arith, z)) (h .calls .line-event)
       (split-off lineFateAt 16 _ b _ (omega (arith, z)) (h .calls .line-fate)
-      (split-last spareAt 212 b z (h .plan .spare))))))))))))))))
+      (split-off minuteAt 4 _ b _ (omega (arith, z)) (h .calls .minute)
+      (split-off fromAt 64 _ b _ (omega (arith, z)) (h .plan .from)
+      (split-off untilAt 64 _ b _ (omega (arith, z)) (h .plan .until)
+      (split-last spareAt 80 b z (h .plan .spare)))))))))))))))))))
 
 -- the rows of a plan, written over bytes whose spare bytes are zero
 module _ (p : Plan) (b : List ℕ) (z : length b ≡ 384) where
-  row : (j i : ℕ) → j < 9 → i < rowOf (planRows p) j .len → byteAt (written (planRows p) b) (rowOf (planRows p) j .at + i) ≡ rowOf (planRows p) j .byte i
+  row : (j i : ℕ) → j < 11 → i < rowOf (planRows p) j .len → byteAt (written (planRows p) b) (rowOf (planRows p) j .at + i) ≡ rowOf (planRows p) j .byte i
   row j i lt w = written-row (planRows p) j b 384 i z refl lt w
 
   event : (i : ℕ) → i < 16 → getD (p .events) i blankEvent ≡ readAt 16 (p .events) i blankEvent
@@ -79,7 +85,10 @@ module _ (p : Plan) (b : List ℕ) (z : length b ≡ 384) where
   rule : (i : ℕ) → i < 16 → getD (p .rules) i blankRule ≡ readAt 16 (p .rules) i blankRule
   rule i lt = sym (read-get 16 i blankRule lt (p .rules))
 
-  pub plan-shown : ((i : ℕ) → i < 212 → byteAt b (spareAt + i) ≡ 0) → ShowsPlan p (withPlan p b)
+  window : (i : ℕ) → i < 64 → getD (p .windows) (i / 4) blankWindow ≡ windowAt p (i / 4)
+  window i lt = sym (read-get 16 (i / 4) blankWindow (omega arith) (p .windows))
+
+  pub plan-shown : ((i : ℕ) → i < 80 → byteAt b (spareAt + i) ≡ 0) → ShowsPlan p (withPlan p b)
   unfolding withPlan
   plan-shown blank = record {
     version = row 0 0 (omega arith) (omega arith);
@@ -91,12 +100,14 @@ module _ (p : Plan) (b : List ℕ) (z : length b ≡ 384) where
     first = λ i lt. row 6 i (omega arith) lt ∙ ap (λ (v : RuleLine). ruleA (v .rule)) (rule i lt);
     second = λ i lt. row 7 i (omega arith) lt ∙ ap (λ (v : RuleLine). ruleB (v .rule)) (rule i lt);
     third = λ i lt. row 8 i (omega arith) lt ∙ ap (λ (v : RuleLine). ruleC (v .rule)) (rule i lt);
-    spare = λ i lt. written-apart 172 384 (planRows p) b (spareAt + i) refl (omega arith, omega arith) ∙ blank i lt;
+    from = λ i lt. row 9 i (omega arith) lt ∙ ap (λ (v : Window). wordByte (v .from) (i % 4)) (window i lt);
+    until = λ i lt. row 10 i (omega arith) lt ∙ ap (λ (v : Window). wordByte (v .until) (i % 4)) (window i lt);
+    spare = λ i lt. written-apart 304 384 (planRows p) b (spareAt + i) refl (omega arith, omega arith) ∙ blank i lt;
   }
 
 -- the rows that a call may change, written over bytes that show the plan
 module _ (s : State) (b : List ℕ) (z : length b ≡ 384) where
-  changed : (j i : ℕ) → j < 6 → i < rowOf (callRows s) j .len → byteAt (written (callRows s) b) (rowOf (callRows s) j .at + i) ≡ rowOf (callRows s) j .byte i
+  changed : (j i : ℕ) → j < 7 → i < rowOf (callRows s) j .len → byteAt (written (callRows s) b) (rowOf (callRows s) j .at + i) ≡ rowOf (callRows s) j .byte i
   changed j i lt w = written-row (callRows s) j b 384 i z refl lt w
 
   head-kept : (k : ℕ) → k < 3 → byteAt (written (callRows s) b) k ≡ byteAt b k
@@ -104,6 +115,9 @@ module _ (s : State) (b : List ℕ) (z : length b ≡ 384) where
 
   plan-kept : (k : ℕ) → (4 ≤ k) × (k < 100) → byteAt (written (callRows s) b) k ≡ byteAt b k
   plan-kept k w = written-apart 4 100 (callRows s) b k refl w
+
+  windows-kept : (k : ℕ) → (176 ≤ k) × (k < 384) → byteAt (written (callRows s) b) k ≡ byteAt b k
+  windows-kept k w = written-apart 176 384 (callRows s) b k refl w
 
   entry : (i : ℕ) → i < 16 → getD (s .history) i blankEntry ≡ placeOf s i
   entry i lt = sym (read-get 16 i blankEntry lt (s .history))
@@ -117,6 +131,7 @@ module _ (s : State) (b : List ℕ) (z : length b ≡ 384) where
     shut = λ i lt. changed 3 i (omega arith) lt ∙ ap oneIf (sym (read-get 8 i false lt (s .closed)));
     line-event = λ i lt. changed 4 i (omega arith) lt ∙ ap (λ (v : Entry). v .event) (entry i lt);
     line-fate = λ i lt. changed 5 i (omega arith) lt ∙ ap (λ (v : Entry). fateNumber (v .fate)) (entry i lt);
+    minute = λ k lt. changed 6 k (omega arith) lt;
   }
 
   -- the plan is shown still
@@ -132,7 +147,9 @@ module _ (s : State) (b : List ℕ) (z : length b ≡ 384) where
     first = λ i lt. plan-kept (aAt + i) (omega arith, omega arith) ∙ h .first i lt;
     second = λ i lt. plan-kept (bAt + i) (omega arith, omega arith) ∙ h .second i lt;
     third = λ i lt. plan-kept (cAt + i) (omega arith, omega arith) ∙ h .third i lt;
-    spare = λ i lt. written-apart 172 384 (callRows s) b (spareAt + i) refl (omega arith, omega arith) ∙ h .spare i lt;
+    from = λ i lt. windows-kept (fromAt + i) (omega arith, omega arith) ∙ h .from i lt;
+    until = λ i lt. windows-kept (untilAt + i) (omega arith, omega arith) ∙ h .until i lt;
+    spare = λ i lt. windows-kept (spareAt + i) (omega arith, omega arith) ∙ h .spare i lt;
   }
 
   pub call-shown : ShowsPlan (s .plan) b → Shows s (withCall s b)
@@ -159,7 +176,7 @@ module _ (s : State) where
   unfolding blank
   base-shows = plan-shown (s .plan) blank blank-length zeros
     where
-      zeros : (i : ℕ) → i < 212 → byteAt blank (spareAt + i) ≡ 0
+      zeros : (i : ℕ) → i < 80 → byteAt blank (spareAt + i) ≡ 0
       zeros i lt = getD-replicate 384 (spareAt + i) 0 0 (omega arith)
 
   whole-shows : Shows s (withCall s (withPlan (s .plan) blank))

@@ -15,9 +15,9 @@ use Rattle.plan.proofs.Tests.{either}
 use Rattle.scheduler.specs.Answers.{call}
 use Rattle.scheduler.specs.Coherent.{coherent}
 use Rattle.scheduler.specs.State.{lineCount}
-use Rattle.image.specs.Layout.{stepAt, attributesAt, kindAt, aAt, bAt, cAt, fateAt, markAt, shutAt, lineEventAt, lineFateAt, imageOf, stateIn, isImage}
+use Rattle.image.specs.Layout.{stepAt, attributesAt, kindAt, aAt, bAt, cAt, fateAt, markAt, shutAt, lineEventAt, lineFateAt, minuteAt, fromAt, untilAt, wordByte, imageOf, stateIn, isImage}
 use Rattle.image.specs.Calls.{numberOn, imageAfter, isSound, checkOn}
-use Rattle.image.specs.Internal.Writes.{putTo, written, stepByte, attributesByte, kindByte, aByte, bByte, cByte, fateByte, markByte, lineEventByte, lineFateByte, withPlan, withCall}
+use Rattle.image.specs.Internal.Writes.{putTo, written, stepByte, attributesByte, kindByte, aByte, bByte, cByte, fromByte, untilByte, fateByte, markByte, lineEventByte, lineFateByte, withPlan, withCall}
 use Rattle.image.proofs.Numbers.{fault-above}
 use Rattle.image.proofs.Bytes.{ShowsPlan, shows-image, call-shown, call-length, written-whole}
 use Rattle.image.proofs.Images.{said-shows, said-whole}
@@ -31,28 +31,31 @@ one-put : (at x : ℕ) (b m : List ℕ) → m ≡ b → set m at x ≡ putTo at 
 unfolding putTo
 one-put at x b m e = rw (add-zero at) (ap (λ (l : List ℕ). set l at x) e)
 
-pub put-call-rows : (s : State) (b b1 b2 b3 b4 b5 : List ℕ)
+pub put-call-rows : (s : State) (b b1 b2 b3 b4 b5 b6 : List ℕ)
     → b1 ≡ putTo fateAt (fateByte (s .standings)) (set b 3 (lineCount s)) 16
     → b2 ≡ putTo markAt (markByte (s .broken)) b1 16
     → b3 ≡ putTo shutAt (markByte (s .closed)) b2 8
     → b4 ≡ putTo lineEventAt (lineEventByte (s .history)) b3 16
     → b5 ≡ putTo lineFateAt (lineFateByte (s .history)) b4 16
-    → b5 ≡ withCall s b
+    → b6 ≡ putTo minuteAt (wordByte (s .minute)) b5 4
+    → b6 ≡ withCall s b
 unfolding withCall written
-put-call-rows s b b1 b2 b3 b4 b5 h1 h2 h3 h4 h5 =
-    next _ _ _ _ _ _ h5 (next _ _ _ _ _ _ h4 (next _ _ _ _ _ _ h3 (next _ _ _ _ _ _ h2 (next _ _ _ _ _ _ h1 (one-put 3 (lineCount s) b b refl)))))
+put-call-rows s b b1 b2 b3 b4 b5 b6 h1 h2 h3 h4 h5 h6 =
+    next _ _ _ _ _ _ h6 (next _ _ _ _ _ _ h5 (next _ _ _ _ _ _ h4 (next _ _ _ _ _ _ h3 (next _ _ _ _ _ _ h2 (next _ _ _ _ _ _ h1 (one-put 3 (lineCount s) b b refl))))))
 
-pub put-plan-rows : (p : Plan) (b b1 b2 b3 b4 b5 b6 : List ℕ)
+pub put-plan-rows : (p : Plan) (b b1 b2 b3 b4 b5 b6 b7 b8 : List ℕ)
     → b1 ≡ putTo stepAt (stepByte (p .events)) (set (set (set b 0 1) 1 (eventCount p)) 2 (ruleCount p)) 16
     → b2 ≡ putTo attributesAt (attributesByte (p .events)) b1 16
     → b3 ≡ putTo kindAt (kindByte (p .rules)) b2 16
     → b4 ≡ putTo aAt (aByte (p .rules)) b3 16
     → b5 ≡ putTo bAt (bByte (p .rules)) b4 16
     → b6 ≡ putTo cAt (cByte (p .rules)) b5 16
-    → b6 ≡ withPlan p b
+    → b7 ≡ putTo fromAt (fromByte (p .windows)) b6 64
+    → b8 ≡ putTo untilAt (untilByte (p .windows)) b7 64
+    → b8 ≡ withPlan p b
 unfolding withPlan written
-put-plan-rows p b b1 b2 b3 b4 b5 b6 h1 h2 h3 h4 h5 h6 =
-    next _ _ _ _ _ _ h6 (next _ _ _ _ _ _ h5 (next _ _ _ _ _ _ h4 (next _ _ _ _ _ _ h3 (next _ _ _ _ _ _ h2 (next _ _ _ _ _ _ h1 heads)))))
+put-plan-rows p b b1 b2 b3 b4 b5 b6 b7 b8 h1 h2 h3 h4 h5 h6 h7 h8 =
+    next _ _ _ _ _ _ h8 (next _ _ _ _ _ _ h7 (next _ _ _ _ _ _ h6 (next _ _ _ _ _ _ h5 (next _ _ _ _ _ _ h4 (next _ _ _ _ _ _ h3 (next _ _ _ _ _ _ h2 (next _ _ _ _ _ _ h1 heads)))))))
   where
     heads : set (set (set b 0 1) 1 (eventCount p)) 2 (ruleCount p) ≡ putTo 2 (λ _. ruleCount p) (putTo 1 (λ _. eventCount p) (putTo 0 (λ _. 1) b 1) 1) 1
     heads = one-put 2 (ruleCount p) _ _ (one-put 1 (eventCount p) _ _ (one-put 0 1 b b refl))

@@ -17,7 +17,7 @@ use Rattle.scheduler.specs.State.{Sized}
 use Rattle.scheduler.proofs.Branches.{call-fault}
 use Rattle.theory.proofs.Coherence.{coherent-sound, coherent-invariant, accepted-coherent, call-keeps, sized-call, call-turned-down}
 use Rattle.theory.proofs.Demands.{demand3, admitted-sized}
-use Rattle.theory.proofs.SheetPlans.{sheet-lengths}
+use Rattle.theory.proofs.SheetPlans.{sheet-read}
 use Rattle.image.specs.Layout.{imageOf, stateIn, isImage, Whole}
 use Rattle.image.specs.Calls.{numberOn, imageAfter, numbersOn, imagesAfter, numbersOf, Hosted}
 use Rattle.image.proofs.Images.{image-is, read-back, write-back}
@@ -39,6 +39,7 @@ call-whole s c w =
       sized = sized-call s c (w .sized);
       events-len = ap (λ (x : Plan). length (x .events)) p ∙ w .events-len;
       rules-len = ap (λ (x : Plan). length (x .rules)) p ∙ w .rules-len;
+      windows-len = ap (λ (x : Plan). length (x .windows)) p ∙ w .windows-len;
     }
 
 -- bytes that are no image, and bytes that are one
@@ -120,8 +121,8 @@ module _ where
 -- an admitted sheet's first state
 pub admitted-whole : (sheet : List ℕ) (s : State) → readSheet sheet ≡ admitted s → Whole s
 admitted-whole sheet s h =
-    let q = sheet-lengths sheet s h in
-    record { sized = admitted-sized sheet s h; events-len = q .0; rules-len = q .1 }
+    let q = sheet-read sheet s h in
+    record { sized = admitted-sized sheet s h; events-len = q .events-len; rules-len = q .rules-len; windows-len = q .windows-len }
 
 -- a host that opens an admitted sheet and makes any calls on the bytes has what a list of these calls gives, and the
 -- guarantee with it

@@ -1,25 +1,28 @@
 -- The theorems on images: exactly the 384 bytes that a state is written with are images, and an image and its state
 -- say each other.
-use Prim.Native.Nat.{ℕ, _+_, _<_}
-use borrow.Author.Tests.{eqb-true}
+use Prim.Native.Nat.{ℕ, _+_, _-_, _*_, _/_, _%_, _<_}
+use native.Mathlib.Omega.{arith}
+use borrow.Author.Tests.{eqb-true, ltb-true, ltb-false}
 use mathlib.Core.Bool.{Bool, true, false, _&&_, _||_}
 use mathlib.Core.List.{List}
-use mathlib.Core.Path.{_≡_, refl, sym, _∙_, ap}
+use mathlib.Core.Logic.{inl, inr}
+use mathlib.Core.Path.{_≡_, refl, sym, _∙_, ap, subst}
 use lib.Dec.{eqb, ltb}
 use lib.ListN.{length}
-use Rattle.image.specs.Types.{Fate, Event, Rule, RuleLine, Standing, Entry, State}
+use Rattle.image.specs.Types.{Fate, Event, Rule, RuleLine, Window, Standing, Entry, State}
 use Rattle.plan.specs.Base.{oneIf, allBelow, tabulate, readAt}
 use Rattle.plan.specs.Fates.{fateNumber, blankStanding}
-use Rattle.plan.specs.Plans.{eventAt, ruleAt, blankEvent, blankRule}
+use Rattle.plan.specs.Plans.{eventAt, ruleAt, windowAt, blankEvent, blankRule, blankWindow}
 use Rattle.plan.specs.Records.{ruleOf}
 use Rattle.plan.specs.Histories.{blankEntry}
-use Rattle.plan.proofs.Tests.{all-at, all-of}
+use Rattle.plan.proofs.Tests.{either, and-left, and-right, all-at, all-of}
 use Rattle.scheduler.specs.State.{fateOf, brokenAt, closedAt}
 use Rattle.theory.proofs.Conjunctions.{and-three, and-four}
 use Rattle.theory.proofs.Observation.{length-tabulate, array-tabulate}
-use Rattle.image.specs.Layout.{kindAt, aAt, bAt, cAt, fateAt, markAt, shutAt, lineFateAt, spareAt, ruleKind, ruleA, ruleB, ruleC, placeOf, imageOf, byteAt, fateFrom, eventIn, recordIn, ruleIn, standingIn, entryIn, planIn, stateIn, placeOk, isImage, Whole}
+use Rattle.image.specs.Layout.{kindAt, aAt, bAt, cAt, fateAt, markAt, shutAt, lineFateAt, minuteAt, fromAt, untilAt, spareAt, ruleKind, ruleA, ruleB, ruleC, placeOf, wordByte, rowByte, imageOf, byteAt, fateFrom, eventIn, recordIn, ruleIn, standingIn, entryIn, windowIn, planIn, stateIn, placeOk, isByte, wordOk, isImage, Whole}
 use Rattle.image.proofs.Rows.{read-tabulate}
 use Rattle.image.proofs.Numbers.{fate-back, fate-low, number-back, mark-back, mark-low, one-back, recordOf, rule-back, rule-passes, RuleBytes, rule-bytes}
+use Rattle.image.proofs.Words.{word-said, row-said, Low, word-shown, row-shown, word-low}
 use Rattle.image.proofs.Bytes.{Shows, shows-image, image-shows}
 
 -- the parts of a conjunction of six tests
@@ -49,14 +52,49 @@ module _ (s : State) (b : List ℕ) (h : Shows s b) where
   shut-passes : (k : ℕ) → k < 8 → ltb (byteAt b (shutAt + k)) 2 ≡ true
   shut-passes k lt = rw (h .calls .shut k lt) (mark-low (closedAt s k))
 
-  spare-passes : (k : ℕ) → k < 212 → eqb (byteAt b (spareAt + k)) 0 ≡ true
+  spare-passes : (k : ℕ) → k < 80 → eqb (byteAt b (spareAt + k)) 0 ≡ true
   spare-passes k lt = rw (h .plan .spare k lt)
+
+  -- the lower three of the four from a place on, where they show a number
+  low-passes : (at m : ℕ) → ((k : ℕ) → k < 4 → byteAt b (at + k) ≡ wordByte m k) → Low b at
+  low-passes at m w =
+      let there : at + 0 ≡ at = omega arith in
+      (rw (sym (ap (byteAt b) there) ∙ w 0 (omega arith)) (word-low m .0), rw (w 1 (omega arith)) (word-low m .1), rw (w 2 (omega arith)) (word-low m .2))
+
+  row-passes : (at : ℕ) (f : ℕ → ℕ) → ((i : ℕ) → i < 64 → byteAt b (at + i) ≡ rowByte f i) → (e : ℕ) → e < 16 → Low b (at + 4 * e)
+  row-passes at f w e lt = low-passes (at + 4 * e) (f e) byte
+    where
+      byte : (k : ℕ) → k < 4 → byteAt b (at + 4 * e + k) ≡ wordByte (f e) k
+      byte k lk =
+          let there : at + 4 * e + k ≡ at + (4 * e + k) = omega arith in
+          let q : (4 * e + k) / 4 ≡ e = omega arith in
+          let r : (4 * e + k) % 4 ≡ k = omega arith in
+          ap (byteAt b) there ∙ w (4 * e + k) (omega arith) ∙ (λ i. wordByte (f (q i)) (r i))
+
+  lows : (e : ℕ) → e < 33 → Low b (minuteAt + 4 * e)
+  lows e lt = elim (either (ltb e 1)) [
+    | inl x ↦
+        let here : minuteAt ≡ minuteAt + 4 * e = omega (arith, ltb-true e 1 x) in
+        subst (Low b) here (low-passes minuteAt (s .minute) (h .calls .minute))
+    | inr x ↦ elim (either (ltb e 17)) [
+      | inl y ↦
+          let here : fromAt + 4 * (e - 1) ≡ minuteAt + 4 * e = omega (arith, ltb-false e 1 x) in
+          subst (Low b) here (row-passes fromAt (λ k. windowAt (s .plan) k .from) (h .plan .from) (e - 1) (omega (arith, ltb-true e 17 y)))
+      | inr y ↦
+          let here : untilAt + 4 * (e - 17) ≡ minuteAt + 4 * e = omega (arith, ltb-false e 17 y) in
+          subst (Low b) here (row-passes untilAt (λ k. windowAt (s .plan) k .until) (h .plan .until) (e - 17) (omega arith))
+    ]
+  ]
+
+  word-passes : (e : ℕ) → e < 33 → wordOk b e ≡ true
+  unfolding wordOk
+  word-passes e lt = let w = lows e lt in rw (w .0, w .1, w .2)
 
   pub shows-is : isImage b ≡ true
   unfolding isImage
   shows-is =
       rw (h .plan .version, all-of 16 (placeOk b) place-passes, all-of 8 (λ k. ltb (byteAt b (shutAt + k)) 2) shut-passes)
-      (all-of 212 (λ k. eqb (byteAt b (spareAt + k)) 0) spare-passes)
+      (rw (all-of 80 (λ k. eqb (byteAt b (spareAt + k)) 0) spare-passes) (all-of 33 (wordOk b) word-passes))
 
 -- the state that they say is the one that they show
 module _ (s : State) (b : List ℕ) (h : Shows s b) (w : Whole s) where
@@ -64,7 +102,7 @@ module _ (s : State) (b : List ℕ) (h : Shows s b) (w : Whole s) where
   event-said k lt i = record { step = h .plan .step k lt i; attributes = h .plan .attributes k lt i }
 
   record-said : (k : ℕ) → k < 16 → recordIn b k ≡ recordOf (ruleAt (s .plan) k)
-  record-said k lt i = record { kind = h .plan .kind k lt i; x = h .plan .first k lt i; y = h .plan .second k lt i; z = h .plan .third k lt i }
+  record-said k lt i = record { kind = h .plan .kind k lt i; x = h .plan .first k lt i; y = h .plan .second k lt i; z = h .plan .third k lt i; from = 0; until = 0 }
 
   rule-said : (k : ℕ) → k < 16 → ruleIn b k ≡ readAt 16 (s .plan .rules) k blankRule
   rule-said k lt = ap {B = RuleLine} (λ (x : Rule). record { rule = x }) (ap ruleOf (record-said k lt) ∙ rule-back (ruleAt (s .plan) k))
@@ -81,6 +119,12 @@ module _ (s : State) (b : List ℕ) (h : Shows s b) (w : Whole s) where
   shut-said : (k : ℕ) → k < 8 → eqb (byteAt b (shutAt + k)) 1 ≡ closedAt s k
   shut-said k lt = rw (h .calls .shut k lt) (mark-back (closedAt s k))
 
+  window-said : (k : ℕ) → k < 16 → windowIn b k ≡ windowAt (s .plan) k
+  window-said k lt i = record {
+    from = row-said b fromAt 16 (λ e. windowAt (s .plan) e .from) (h .plan .from) k lt i;
+    until = row-said b untilAt 16 (λ e. windowAt (s .plan) e .until) (h .plan .until) k lt i;
+  }
+
   plan-said : planIn b ≡ s .plan
   unfolding planIn
   plan-said i = record {
@@ -88,6 +132,7 @@ module _ (s : State) (b : List ℕ) (h : Shows s b) (w : Whole s) where
     «event_count» = h .plan .events i;
     rules = array-said 16 (s .plan .rules) (ruleIn b) blankRule (w .rules-len) rule-said i;
     «rule_count» = h .plan .rules i;
+    windows = array-said 16 (s .plan .windows) (windowIn b) blankWindow (w .windows-len) window-said i;
   }
 
   pub shows-said : stateIn b ≡ s
@@ -99,6 +144,7 @@ module _ (s : State) (b : List ℕ) (h : Shows s b) (w : Whole s) where
     closed = array-said 8 (s .closed) (λ k. eqb (byteAt b (shutAt + k)) 1) false (w .sized .closed-len) shut-said i;
     history = array-said 16 (s .history) (entryIn b) blankEntry (w .sized .history-len) entry-said i;
     «history_len» = h .calls .lines i;
+    minute = word-said b minuteAt (s .minute) (h .calls .minute) i;
   }
 
 -- bytes that are an image show the state that they say
@@ -106,9 +152,23 @@ module _ (b : List ℕ) (h : isImage b ≡ true) where
   tests : (eqb (byteAt b 0) 1 ≡ true)
       × (allBelow 16 (placeOk b) ≡ true)
       × (allBelow 8 (λ k. ltb (byteAt b (shutAt + k)) 2) ≡ true)
-      × (allBelow 212 (λ k. eqb (byteAt b (spareAt + k)) 0) ≡ true)
+      × (allBelow 80 (λ k. eqb (byteAt b (spareAt + k)) 0) ≡ true)
   unfolding isImage
-  tests = and-four (eqb (byteAt b 0) 1) (allBelow 16 (placeOk b)) (allBelow 8 (λ k. ltb (byteAt b (shutAt + k)) 2)) (allBelow 212 (λ k. eqb (byteAt b (spareAt + k)) 0)) h
+  tests = and-four (eqb (byteAt b 0) 1) (allBelow 16 (placeOk b)) (allBelow 8 (λ k. ltb (byteAt b (shutAt + k)) 2)) (allBelow 80 (λ k. eqb (byteAt b (spareAt + k)) 0)) (and-left (eqb (byteAt b 0) 1 && allBelow 16 (placeOk b) && allBelow 8 (λ k. ltb (byteAt b (shutAt + k)) 2) && allBelow 80 (λ k. eqb (byteAt b (spareAt + k)) 0)) (allBelow 33 (wordOk b)) h)
+
+  words : allBelow 33 (wordOk b) ≡ true
+  unfolding isImage
+  words = and-right (eqb (byteAt b 0) 1 && allBelow 16 (placeOk b) && allBelow 8 (λ k. ltb (byteAt b (shutAt + k)) 2) && allBelow 80 (λ k. eqb (byteAt b (spareAt + k)) 0)) (allBelow 33 (wordOk b)) h
+
+  low-at : (at e : ℕ) → e < 33 → minuteAt + 4 * e ≡ at → Low b at
+  unfolding wordOk
+  low-at at e lt q =
+      let m = minuteAt + 4 * e in
+      subst (Low b) q (and-three (isByte (byteAt b m)) (isByte (byteAt b (m + 1))) (isByte (byteAt b (m + 2))) (all-at 33 (wordOk b) words e lt))
+
+  window-shown : (e : ℕ) → e < 16 → windowIn b e ≡ windowAt (stateIn b .plan) e
+  unfolding stateIn planIn
+  window-shown e lt = sym (read-tabulate 16 e blankWindow lt (windowIn b))
 
   module _ (i : ℕ) (lt : i < 16) where
     place-tests : (ltb 1 (byteAt b (kindAt + i)) ≡ true)
@@ -167,7 +227,9 @@ module _ (b : List ℕ) (h : isImage b ≡ true) where
       first = λ i lt. sym (said i lt .a-is) ∙ ap ruleA (rule-shown i lt);
       second = λ i lt. sym (said i lt .b-is) ∙ ap ruleB (rule-shown i lt);
       third = λ i lt. sym (said i lt .c-is) ∙ ap ruleC (rule-shown i lt);
-      spare = λ i lt. eqb-true (byteAt b (spareAt + i)) 0 (all-at 212 (λ k. eqb (byteAt b (spareAt + k)) 0) (tests .3) i lt);
+      from = λ i lt. row-shown b fromAt 16 (λ e le. low-at (fromAt + 4 * e) (1 + e) (omega arith) (omega arith)) i lt ∙ ap (λ (v : Window). wordByte (v .from) (i % 4)) (window-shown (i / 4) (omega arith));
+      until = λ i lt. row-shown b untilAt 16 (λ e le. low-at (untilAt + 4 * e) (17 + e) (omega arith) (omega arith)) i lt ∙ ap (λ (v : Window). wordByte (v .until) (i % 4)) (window-shown (i / 4) (omega arith));
+      spare = λ i lt. eqb-true (byteAt b (spareAt + i)) 0 (all-at 80 (λ k. eqb (byteAt b (spareAt + k)) 0) (tests .3) i lt);
     };
     calls = record {
       lines = refl;
@@ -176,6 +238,7 @@ module _ (b : List ℕ) (h : isImage b ≡ true) where
       shut = λ k lt. sym (one-back (byteAt b (shutAt + k)) (all-at 8 (λ k. ltb (byteAt b (shutAt + k)) 2) (tests .2) k lt)) ∙ ap oneIf (shut-shown k lt);
       line-event = λ i lt. ap (λ (v : Entry). v .event) (entry-shown i lt);
       line-fate = λ i lt. sym (number-back (byteAt b (lineFateAt + i)) (place-tests i lt .5)) ∙ ap (λ (v : Entry). fateNumber (v .fate)) (entry-shown i lt);
+      minute = word-shown b minuteAt (low-at minuteAt 0 (omega arith) refl);
     };
   }
 
@@ -191,6 +254,7 @@ said-whole b = record {
   };
   events-len = length-tabulate 16 0 (eventIn b);
   rules-len = length-tabulate 16 0 (ruleIn b);
+  windows-len = length-tabulate 16 0 (windowIn b);
 }
 
 -- a state's bytes are an image

@@ -6,7 +6,7 @@ use mathlib.Core.Bool.{Bool, true, false, _&&_, _||_}
 use mathlib.Core.Logic.{_≢_}
 use mathlib.Core.Path.{_≡_, refl, sym}
 use lib.Dec.{eqb, ltb}
-use Rattle.image.specs.Types.{Fate, Open, Held, Done, Refused, Lapsed, Forced, Rule, Order, Need, Conditional, Record, Answer, Is, Made, TurnedDown, Verdict, Faulty, SheetFault, Cut, BadKind, Full, BadStep, BadAttributes, BadNames, Unenforceable, Extra, CallFault, Unknown, AlreadyClosed, NotClosed, Incoherent, TooLong, NoRoom}
+use Rattle.image.specs.Types.{Fate, Open, Held, Done, Refused, Lapsed, Forced, Rule, Order, Need, Conditional, Record, Answer, Is, Made, TurnedDown, Verdict, Faulty, SheetFault, Cut, BadKind, Full, BadStep, BadAttributes, BadNames, Unenforceable, Extra, BadWindow, CallFault, Unknown, AlreadyClosed, NotClosed, Incoherent, TooLong, NoRoom, Backward}
 use Rattle.plan.specs.Base.{oneIf}
 use Rattle.plan.specs.Fates.{fateNumber}
 use Rattle.plan.specs.Faults.{sheetFaultNumber, callFaultNumber, answerNumber}
@@ -52,7 +52,7 @@ one-back (suc (suc n)) h = absurd (omega (arith, ltb-true (suc (suc n)) 2 h))
 
 -- a rule's four bytes
 abbrev pub recordOf : Rule → Record
-recordOf r = record { kind = ruleKind r; x = ruleA r; y = ruleB r; z = ruleC r }
+recordOf r = record { kind = ruleKind r; x = ruleA r; y = ruleB r; z = ruleC r; from = 0; until = 0 }
 
 pub rule-back : (r : Rule) → ruleOf (recordOf r) ≡ r
 unfolding ruleOf
@@ -77,7 +77,7 @@ pub rule-bytes : (k x y z : ℕ)
     → ltb 1 k ≡ true
     → ltb k 5 ≡ true
     → (eqb k 4 || eqb z 0) ≡ true
-    → RuleBytes (record { kind = k; x = x; y = y; z = z })
+    → RuleBytes (record { kind = k; x = x; y = y; z = z; from = 0; until = 0 })
 unfolding ruleOf
 rule-bytes zero x y z lo hi h = let e : _≡_ {A = ℕ} 0 1 = cc in absurd (omega arith)
 rule-bytes (suc zero) x y z lo hi h = let e : _≡_ {A = ℕ} 0 1 = cc in absurd (omega arith)
@@ -97,20 +97,20 @@ fate-past (suc (suc (suc (suc (suc n))))) a b c d e = refl
 
 -- the rule of each kind
 module _ (k x y z : ℕ) where
-  pub kind-order : k ≡ 2 → Order x y ≡ ruleOf (record { kind = k; x = x; y = y; z = z })
+  pub kind-order : k ≡ 2 → Order x y ≡ ruleOf (record { kind = k; x = x; y = y; z = z; from = 0; until = 0 })
   unfolding ruleOf
   kind-order e = rw (eq-eqb k 2 e, ruleOf)
 
-  pub kind-need : k ≢ 2 → k ≡ 3 → Need x y ≡ ruleOf (record { kind = k; x = x; y = y; z = z })
+  pub kind-need : k ≢ 2 → k ≡ 3 → Need x y ≡ ruleOf (record { kind = k; x = x; y = y; z = z; from = 0; until = 0 })
   unfolding ruleOf
   kind-need n e = rw (ne-eqb k 2 n, eq-eqb k 3 e, ruleOf)
 
-  pub kind-other : k ≢ 2 → k ≢ 3 → Conditional x y z ≡ ruleOf (record { kind = k; x = x; y = y; z = z })
+  pub kind-other : k ≢ 2 → k ≢ 3 → Conditional x y z ≡ ruleOf (record { kind = k; x = x; y = y; z = z; from = 0; until = 0 })
   unfolding ruleOf
   kind-other n m = rw (ne-eqb k 2 n, ne-eqb k 3 m, ruleOf)
 
 -- the numbers of faults are bytes
-sheet-number-low : (f : SheetFault) → sheetFaultNumber f ≤ 8
+sheet-number-low : (f : SheetFault) → sheetFaultNumber f ≤ 15
 sheet-number-low Cut = omega arith
 sheet-number-low BadKind = omega arith
 sheet-number-low Full = omega arith
@@ -119,14 +119,16 @@ sheet-number-low BadAttributes = omega arith
 sheet-number-low BadNames = omega arith
 sheet-number-low Unenforceable = omega arith
 sheet-number-low Extra = omega arith
+sheet-number-low BadWindow = omega arith
 
-call-number-low : (f : CallFault) → callFaultNumber f ≤ 14
+call-number-low : (f : CallFault) → callFaultNumber f ≤ 16
 call-number-low Unknown = omega arith
 call-number-low AlreadyClosed = omega arith
 call-number-low NotClosed = omega arith
 call-number-low Incoherent = omega arith
 call-number-low TooLong = omega arith
 call-number-low NoRoom = omega arith
+call-number-low Backward = omega arith
 
 pub sheet-byte : (v : Verdict) (f : SheetFault) (at n : ℕ) → v ≡ Faulty f at → n ≡ sheetFaultNumber f → n < 256
 sheet-byte v f at n h e = omega (arith, e, sheet-number-low f)
@@ -143,3 +145,4 @@ fault-above NotClosed = omega arith
 fault-above Incoherent = omega arith
 fault-above TooLong = omega arith
 fault-above NoRoom = omega arith
+fault-above Backward = omega arith

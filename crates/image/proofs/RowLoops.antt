@@ -1,19 +1,21 @@
 -- Loops over rows, at their start, at each turn and at their end: a row that is filled, bytes that are written from an
 -- offset on, and tests of every place.
-use Prim.Native.Nat.{ℕ, zero, suc, _+_, _≤_, _<_}
+use Prim.Native.Nat.{ℕ, zero, suc, _+_, _*_, _≤_, _<_}
 use native.Mathlib.Numerals.{add-one}
-use native.Mathlib.Nat.{le-antisymm}
+use native.Mathlib.Nat.{le-antisymm, add-zero}
 use native.Mathlib.Decide.{ℕ-discrete}
 use native.Mathlib.Omega.{arith}
 use mathlib.Core.Bool.{Bool, true, false, _&&_}
 use mathlib.Core.List.{List}
-use mathlib.Core.Path.{_≡_, refl, _∙_, ap}
+use mathlib.Core.Path.{_≡_, refl, sym, _∙_, ap}
 use mir.Val.{boolByte}
 use lib.ListN.{length, getD, set, replicate, length-set, length-replicate}
 use lib.Seq.{getD-set-same, getD-set-other}
 use Rattle.plan.specs.Base.{oneIf, allBelow, tabulate}
 use Rattle.theory.proofs.Observation.{as-tabulate}
+use Rattle.image.specs.Layout.{wordByte, rowByte}
 use Rattle.image.specs.Internal.Writes.{putTo}
+use Rattle.image.proofs.Words.{row-byte}
 
 module _ {A : Type 0} where
   -- the list with g 0, g 1, .. in its first n places
@@ -68,6 +70,49 @@ module _ (at : ℕ) (g : ℕ → ℕ) (l : List ℕ) where
 
   pub put-all : (k : ℕ) (m : List ℕ) (n : ℕ) → n ≤ k → k ≤ n → m ≡ putTo at g l n → m ≡ putTo at g l k
   put-all k m n le ge h = h ∙ ap (putTo at g l) (le-antisymm le ge)
+
+  -- a row of numbers of four bytes each
+  put-more : (n m : ℕ) (h : ℕ → ℕ) → ((j : ℕ) → j < m → h j ≡ g (n + j)) → putTo (at + n) h (putTo at g l n) m ≡ putTo at g l (n + m)
+  unfolding putTo
+  put-more n zero h e = ap (putTo at g l) (sym (add-zero n))
+  put-more n (suc m) h e =
+      let before = put-more n m h (λ j lt. e j (omega arith)) in
+      let place : at + n + m ≡ at + (n + m) = omega arith in
+      let next : suc (n + m) ≡ n + suc m = omega arith in
+      (λ i. set (before i) (place i) (e m (omega arith) i)) ∙ ap (putTo at g l) next
+
+  put-word : (m k : List ℕ) (n x : ℕ)
+      → m ≡ putTo at g l (4 * n)
+      → k ≡ putTo (at + 4 * n) (wordByte x) m 4
+      → ((j : ℕ) → j < 4 → wordByte x j ≡ g (4 * n + j))
+      → k ≡ putTo at g l (4 * (n + 1))
+  put-word m k n x h e w =
+      let four : 4 * n + 4 ≡ 4 * (n + 1) = omega arith in
+      e
+      ∙ ap (λ (v : List ℕ). putTo (at + 4 * n) (wordByte x) v 4) h
+      ∙ put-more (4 * n) 4 (wordByte x) w
+      ∙ ap (putTo at g l) four
+
+  pub put-words : (m : List ℕ) (n : ℕ) → n ≤ 16 → 16 ≤ n → m ≡ putTo at g l (4 * n) → m ≡ putTo at g l 64
+  put-words m n le ge h =
+      let all : 4 * n ≡ 64 = omega arith in
+      h ∙ ap (putTo at g l) all
+
+pub put-row : (at : ℕ) (f : ℕ → ℕ) (l m k : List ℕ) (n : ℕ)
+    → m ≡ putTo at (rowByte f) l (4 * n)
+    → k ≡ putTo (at + 4 * n) (wordByte (f n)) m 4
+    → k ≡ putTo at (rowByte f) l (4 * (n + 1))
+put-row at f l m k n h e = put-word at (rowByte f) l m k n (f n) h e (λ j lt. row-byte f n j lt)
+
+-- the four bytes of a number
+pub four-put : (at a b c d x : ℕ) (l : List ℕ)
+    → a ≡ wordByte x 0
+    → b ≡ wordByte x 1
+    → c ≡ wordByte x 2
+    → d ≡ wordByte x 3
+    → set (set (set (set l at a) (at + 1) b) (at + 2) c) (at + 3) d ≡ putTo at (wordByte x) l 4
+unfolding putTo
+four-put at a b c d x l p q r s i = set (set (set (set l (sym (add-zero at) i) (p i)) (at + 1) (q i)) (at + 2) (r i)) (at + 3) (s i)
 
 -- a mark as a byte
 pub mark-one : (b : Bool) → boolByte b ≡ oneIf b

@@ -1,17 +1,18 @@
 -- A state as 384 bytes: where each part stands, the bytes of a state, the state that bytes say, and which bytes are
 -- an image. The layout is fixed for ever: a host may keep the bytes from one version of the library to the next.
-use Prim.Native.Nat.{ℕ, _+_}
+use Prim.Native.Nat.{ℕ, _+_, _*_, _/_, _%_}
 use mathlib.Core.Bool.{Bool, _&&_, _||_}
 use mathlib.Core.List.{List, [], _∷_, _++_}
 use mathlib.Core.Path.{_≡_}
 use lib.Dec.{eqb, ltb}
 use lib.ListN.{length, getD, replicate}
-use Rattle.image.specs.Types.{Fate, Open, Held, Done, Refused, Lapsed, Forced, Standing, Event, Rule, Order, Need, Conditional, RuleLine, Plan, Entry, Record, State}
+use Rattle.image.specs.Types.{Fate, Open, Held, Done, Refused, Lapsed, Forced, Standing, Event, Rule, Order, Need, Conditional, RuleLine, Window, Plan, Entry, Record, State}
 use Rattle.plan.specs.Base.{oneIf, allBelow, tabulate, readAt}
 use Rattle.plan.specs.Fates.{fateNumber}
-use Rattle.plan.specs.Plans.{eventCount, ruleCount, stepOf, attributesOf, ruleAt}
+use Rattle.plan.specs.Plans.{eventCount, ruleCount, stepOf, attributesOf, ruleAt, windowAt}
 use Rattle.plan.specs.Histories.{blankEntry}
-use Rattle.plan.specs.Records.{ruleOf}
+use Rattle.plan.specs.Records.{ruleOf, wordAt}
+use Rattle.plan.specs.Calls.{bytesOf}
 use Rattle.scheduler.specs.State.{fateOf, brokenAt, closedAt, lineCount, Sized}
 
 -- where the parts begin; before the first array stand the version, and how many events, rules and lines there are
@@ -48,8 +49,17 @@ lineEventAt = 140
 abbrev pub lineFateAt : ℕ
 lineFateAt = 156
 
+abbrev pub minuteAt : ℕ
+minuteAt = 172
+
+abbrev pub fromAt : ℕ
+fromAt = 176
+
+abbrev pub untilAt : ℕ
+untilAt = 240
+
 abbrev pub spareAt : ℕ
-spareAt = 172
+spareAt = 304
 
 -- a rule's kind, as in a sheet, and its events; 0 where it has no third
 abbrev pub ruleKind : Rule → ℕ
@@ -68,6 +78,13 @@ ruleC r = elim r [ Order a b ↦ 0 | Need a b ↦ 0 | Conditional a b c ↦ c ]
 abbrev pub placeOf : State → ℕ → Entry
 placeOf s i = readAt 16 (s .history) i blankEntry
 
+-- byte k of the four bytes of a number, the lowest first; and byte i of a row of such numbers
+abbrev pub wordByte : ℕ → ℕ → ℕ
+wordByte m k = getD (bytesOf m) k 0
+
+abbrev pub rowByte : (ℕ → ℕ) → ℕ → ℕ
+rowByte f i = wordByte (f (i / 4)) (i % 4)
+
 -- the bytes of a state
 unfoldable pub imageOf : State → List ℕ
 imageOf s =
@@ -83,7 +100,10 @@ imageOf s =
     ++ tabulate 8 0 (λ k. oneIf (closedAt s k))
     ++ tabulate 16 0 (λ n. placeOf s n .event)
     ++ tabulate 16 0 (λ n. fateNumber (placeOf s n .fate))
-    ++ replicate 212 0
+    ++ tabulate 4 0 (λ k. wordByte (s .minute) k)
+    ++ tabulate 64 0 (λ i. rowByte (λ e. windowAt (s .plan) e .from) i)
+    ++ tabulate 64 0 (λ i. rowByte (λ e. windowAt (s .plan) e .until) i)
+    ++ replicate 80 0
 
 abbrev pub byteAt : List ℕ → ℕ → ℕ
 byteAt b k = getD b k 0
@@ -102,6 +122,8 @@ recordIn b i = record {
   x = byteAt b (aAt + i);
   y = byteAt b (bAt + i);
   z = byteAt b (cAt + i);
+  from = 0;
+  until = 0;
 }
 
 abbrev pub ruleIn : List ℕ → ℕ → RuleLine
@@ -113,12 +135,16 @@ standingIn b e = record { fate = fateFrom (byteAt b (fateAt + e)) }
 abbrev pub entryIn : List ℕ → ℕ → Entry
 entryIn b n = record { event = byteAt b (lineEventAt + n); fate = fateFrom (byteAt b (lineFateAt + n)) }
 
+abbrev pub windowIn : List ℕ → ℕ → Window
+windowIn b e = record { from = wordAt b (fromAt + 4 * e); until = wordAt b (untilAt + 4 * e) }
+
 unfoldable pub planIn : List ℕ → Plan
 planIn b = record {
   events = tabulate 16 0 (eventIn b);
   «event_count» = byteAt b 1;
   rules = tabulate 16 0 (ruleIn b);
   «rule_count» = byteAt b 2;
+  windows = tabulate 16 0 (windowIn b);
 }
 
 -- the state that bytes say
@@ -130,6 +156,7 @@ stateIn b = record {
   closed = tabulate 8 0 (λ k. eqb (byteAt b (shutAt + k)) 1);
   history = tabulate 16 0 (entryIn b);
   «history_len» = byteAt b 3;
+  minute = wordAt b minuteAt;
 }
 
 -- place i holds a rule's kind, no third event but for a conditional, two fates, and a mark
@@ -142,23 +169,36 @@ placeOk b i =
     && ltb (byteAt b (markAt + i)) 2
     && ltb (byteAt b (lineFateAt + i)) 6
 
+-- the lower three numbers that number e of four bytes is read from, the minute and then those of the windows, are bytes. Of
+-- bytes this says nothing: whatever they are, they are an image there
+abbrev pub isByte : ℕ → Bool
+isByte n = ltb n 256
+
+unfoldable pub wordOk : List ℕ → ℕ → Bool
+wordOk b e =
+    isByte (byteAt b (minuteAt + 4 * e))
+    && isByte (byteAt b (minuteAt + 4 * e + 1))
+    && isByte (byteAt b (minuteAt + 4 * e + 2))
+
 -- bytes that some state is written with (proved: of 384 bytes exactly these)
 unfoldable pub isImage : List ℕ → Bool
 isImage b =
     eqb (byteAt b 0) 1
     && allBelow 16 (placeOk b)
     && allBelow 8 (λ k. ltb (byteAt b (shutAt + k)) 2)
-    && allBelow 212 (λ k. eqb (byteAt b (spareAt + k)) 0)
+    && allBelow 80 (λ k. eqb (byteAt b (spareAt + k)) 0)
+    && allBelow 33 (wordOk b)
 
 -- every array has its length, the plan's too, as in every state that code can hold
 pub record Whole (s : State) : Type 0 where
   pub sized : Sized s
   pub events-len : length (s .plan .events) ≡ 16
   pub rules-len : length (s .plan .rules) ≡ 16
+  pub windows-len : length (s .plan .windows) ≡ 16
 
--- every number fits a byte, as in every state that code can hold
-abbrev pub isByte : ℕ → Bool
-isByte n = ltb n 256
+-- every number fits a byte, or four, as in every state that code can hold
+abbrev pub isWord : ℕ → Bool
+isWord n = ltb n 4294967296
 
 unfoldable pub placeFits : State → ℕ → Bool
 placeFits s i =
@@ -168,6 +208,8 @@ placeFits s i =
     && isByte (ruleB (ruleAt (s .plan) i))
     && isByte (ruleC (ruleAt (s .plan) i))
     && isByte (placeOf s i .event)
+    && isWord (windowAt (s .plan) i .from)
+    && isWord (windowAt (s .plan) i .until)
 
 unfoldable pub fits : State → Bool
 fits s =
@@ -175,3 +217,4 @@ fits s =
     && isByte (ruleCount (s .plan))
     && isByte (lineCount s)
     && allBelow 16 (placeFits s)
+    && isWord (s .minute)

@@ -52,7 +52,7 @@ pub(crate) fn fate_from(n: u8) -> Fate
 
 // The rule of four bytes.
 pub(crate) fn rule_from(kind: u8, a: u8, b: u8, c: u8) -> Rule
-    ensures { λ r. ⌜ r ≡ ruleOf (record { kind = kind; x = a; y = b; z = c }) ⌝ }
+    ensures { λ r. ⌜ r ≡ ruleOf (record { kind = kind; x = a; y = b; z = c; from = 0; until = 0 }) ⌝ }
 {
     if kind == 2 {
         return Rule::Order(a, b);

@@ -1,6 +1,7 @@
 // The state that bytes say, array by array.
 use super::number::fate_from;
 use super::number::rule_from;
+use plan::bytes::word_of;
 use plan::event::Event;
 use plan::fate::Fate;
 use plan::fate::Standing;
@@ -8,12 +9,14 @@ use plan::history::Entry;
 use plan::plan::Plan;
 use plan::rule::Rule;
 use plan::rule::RuleLine;
+use plan::window::Window;
 use scheduler::state::State;
 ghost use mathlib.Core.Path.{_≡_};
-ghost use Prim.Native.Nat.{_+_};
+ghost use Prim.Native.Nat.{_+_, _≤_};
 ghost use lib.Dec.{eqb};
 ghost use Rattle.plan.specs.Base.{tabulate};
-ghost use Rattle.image.specs.Layout.{markAt, shutAt, byteAt, eventIn, ruleIn, standingIn, entryIn, planIn, stateIn};
+ghost use Rattle.plan.specs.Records.{wordAt};
+ghost use Rattle.image.specs.Layout.{markAt, shutAt, byteAt, eventIn, ruleIn, standingIn, entryIn, windowIn, planIn, stateIn};
 
 // The state that the bytes say. Any bytes say one; only an image says all that it holds.
 pub fn state_in(image: &[u8; 384]) -> State
@@ -24,6 +27,7 @@ pub fn state_in(image: &[u8; 384]) -> State
     let broken = broken_in(image);
     let closed = closed_in(image);
     let history = history_in(image);
+    let minute = word_in(image, 172);
     let history_len = image[3];
     State {
         plan,
@@ -32,6 +36,7 @@ pub fn state_in(image: &[u8; 384]) -> State
         closed,
         history,
         history_len,
+        minute,
     }
 }
 
@@ -40,6 +45,7 @@ fn plan_in(image: &[u8; 384]) -> Plan
 {
     let events = events_in(image);
     let rules = rules_in(image);
+    let windows = windows_in(image);
     let event_count = image[1];
     let rule_count = image[2];
     Plan {
@@ -47,6 +53,7 @@ fn plan_in(image: &[u8; 384]) -> Plan
         event_count,
         rules,
         rule_count,
+        windows,
     }
 }
 
@@ -81,6 +88,28 @@ fn rules_in(image: &[u8; 384]) -> [RuleLine; 16]
         i += 1;
     }
     row
+}
+
+fn windows_in(image: &[u8; 384]) -> [Window; 16]
+    ensures { λ r. ⌜ r ≡ tabulate 16 0 (windowIn (now (image .entry))) ⌝ }
+{
+    let mut row = [Window { from: 0, until: 0 }; 16];
+    let mut i: usize = 0;
+    while i < 16 {
+        let from = word_in(image, 176 + 4 * i);
+        let until = word_in(image, 240 + 4 * i);
+        row[i] = Window { from, until };
+        i += 1;
+    }
+    row
+}
+
+// A number of four bytes, the lowest first.
+fn word_in(image: &[u8; 384], at: usize) -> u32
+    requires { ⌜ at + 4 ≤ 384 ⌝ }
+    ensures { λ r. ⌜ r ≡ wordAt (now (image .entry)) at ⌝ }
+{
+    word_of(image[at], image[at + 1], image[at + 2], image[at + 3])
 }
 
 fn standings_in(image: &[u8; 384]) -> [Standing; 16]

@@ -3,13 +3,17 @@ ghost use mathlib.Core.Path.{_≡_};
 ghost use Prim.Native.Nat.{_+_, _<_};
 ghost use lib.Dec.{eqb, ltb};
 ghost use Rattle.plan.specs.Base.{allBelow};
-ghost use Rattle.image.specs.Layout.{shutAt, spareAt, byteAt, placeOk, isImage};
+ghost use Rattle.image.specs.Layout.{shutAt, spareAt, byteAt, placeOk, isByte, wordOk, isImage};
 
 // Are they bytes that a state is written with?
 pub fn is_image(image: &[u8; 384]) -> bool
     ensures { λ r. ⌜ r ≡ isImage (now (image .entry)) ⌝ }
 {
-    (image[0] == 1) & are_places(image) & are_closings(image) & is_rest_spare(image)
+    (image[0] == 1)
+        & are_places(image)
+        & are_closings(image)
+        & is_rest_spare(image)
+        & are_words(image)
 }
 
 // Does every place hold what a rule, two fates and a mark are written with?
@@ -53,13 +57,40 @@ fn are_closings(image: &[u8; 384]) -> bool
 
 // Are the spare bytes zero?
 fn is_rest_spare(image: &[u8; 384]) -> bool
-    ensures { λ r. ⌜ r ≡ allBelow 212 (λ k. eqb (byteAt (now (image .entry)) (spareAt + k)) 0) ⌝ }
+    ensures { λ r. ⌜ r ≡ allBelow 80 (λ k. eqb (byteAt (now (image .entry)) (spareAt + k)) 0) ⌝ }
 {
     let mut ok = true;
     let mut i: usize = 0;
-    while i < 212 {
-        ok = (image[172 + i] == 0) & ok;
+    while i < 80 {
+        ok = (image[304 + i] == 0) & ok;
         i += 1;
     }
     ok
+}
+
+// Are the numbers of four bytes read from bytes? They always are: no test is left of this in the program.
+fn are_words(image: &[u8; 384]) -> bool
+    ensures { λ r. ⌜ r ≡ allBelow 33 (wordOk (now (image .entry))) ⌝ }
+{
+    let mut ok = true;
+    let mut i: usize = 0;
+    while i < 33 {
+        ok = is_word(image, i) & ok;
+        i += 1;
+    }
+    ok
+}
+
+fn is_word(image: &[u8; 384], i: usize) -> bool
+    requires { ⌜ i < 33 ⌝ }
+    ensures { λ r. ⌜ r ≡ wordOk (now (image .entry)) i ⌝ }
+{
+    let at = 172 + 4 * i;
+    is_byte(image[at]) & is_byte(image[at + 1]) & is_byte(image[at + 2])
+}
+
+fn is_byte(n: u8) -> bool
+    ensures { λ r. ⌜ r ≡ isByte n ⌝ }
+{
+    (n as u16) < 256
 }

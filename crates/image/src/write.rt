@@ -9,10 +9,12 @@ use plan::fate::fate_number;
 use plan::history::Entry;
 use plan::plan::Plan;
 use plan::rule::RuleLine;
+use plan::window::Window;
 use scheduler::state::State;
 ghost use mathlib.Core.Path.{_≡_};
-ghost use Rattle.image.specs.Layout.{stepAt, attributesAt, kindAt, aAt, bAt, cAt, fateAt, markAt, shutAt, lineEventAt, lineFateAt, imageOf};
-ghost use Rattle.image.specs.Internal.Writes.{putTo, stepByte, attributesByte, kindByte, aByte, bByte, cByte, fateByte, markByte, lineEventByte, lineFateByte, withPlan, withCall};
+ghost use Prim.Native.Nat.{_+_, _≤_};
+ghost use Rattle.image.specs.Layout.{stepAt, attributesAt, kindAt, aAt, bAt, cAt, fateAt, markAt, shutAt, lineEventAt, lineFateAt, fromAt, untilAt, wordByte, imageOf};
+ghost use Rattle.image.specs.Internal.Writes.{putTo, stepByte, attributesByte, kindByte, aByte, bByte, cByte, fromByte, untilByte, fateByte, markByte, lineEventByte, lineFateByte, withPlan, withCall};
 
 // The whole state.
 pub fn put_state(image: &mut [u8; 384], state: State)
@@ -25,7 +27,7 @@ pub fn put_state(image: &mut [u8; 384], state: State)
     put_call(image, state);
 }
 
-// What a call may change: fates, marks, closed steps, the history.
+// What a call may change: fates, marks, closed steps, the history, the minute.
 pub(crate) fn put_call(image: &mut [u8; 384], state: State)
     ensures { λ _. ⌜ now (image .exit) ≡ withCall state (now (image .entry)) ⌝ }
 {
@@ -39,6 +41,7 @@ pub(crate) fn put_call(image: &mut [u8; 384], state: State)
     put_closings(image, closed);
     put_line_events(image, history);
     put_line_fates(image, history);
+    put_word(image, 172, state.minute);
 }
 
 // What a plan declares, with the version before it.
@@ -47,6 +50,7 @@ fn put_plan(image: &mut [u8; 384], plan: Plan)
 {
     let events = plan.events;
     let rules = plan.rules;
+    let windows = plan.windows;
     image[0] = 1;
     image[1] = plan.event_count;
     image[2] = plan.rule_count;
@@ -56,6 +60,8 @@ fn put_plan(image: &mut [u8; 384], plan: Plan)
     put_firsts(image, rules);
     put_seconds(image, rules);
     put_thirds(image, rules);
+    put_froms(image, windows);
+    put_untils(image, windows);
 }
 
 fn put_steps(image: &mut [u8; 384], row: [Event; 16])
@@ -126,6 +132,39 @@ fn put_thirds(image: &mut [u8; 384], row: [RuleLine; 16])
         image[84 + i] = third_of(rule);
         i += 1;
     }
+}
+
+fn put_froms(image: &mut [u8; 384], row: [Window; 16])
+    ensures { λ _. ⌜ now (image .exit) ≡ putTo fromAt (fromByte row) (now (image .entry)) 64 ⌝ }
+{
+    let mut i: usize = 0;
+    while i < 16 {
+        let window = row[i];
+        put_word(image, 176 + 4 * i, window.from);
+        i += 1;
+    }
+}
+
+fn put_untils(image: &mut [u8; 384], row: [Window; 16])
+    ensures { λ _. ⌜ now (image .exit) ≡ putTo untilAt (untilByte row) (now (image .entry)) 64 ⌝ }
+{
+    let mut i: usize = 0;
+    while i < 16 {
+        let window = row[i];
+        put_word(image, 240 + 4 * i, window.until);
+        i += 1;
+    }
+}
+
+// A number's four bytes, the lowest first.
+fn put_word(image: &mut [u8; 384], at: usize, word: u32)
+    requires { ⌜ at + 4 ≤ 384 ⌝ }
+    ensures { λ _. ⌜ now (image .exit) ≡ putTo at (wordByte word) (now (image .entry)) 4 ⌝ }
+{
+    image[at] = (word % 256) as u8;
+    image[at + 1] = (word / 256 % 256) as u8;
+    image[at + 2] = (word / 65536 % 256) as u8;
+    image[at + 3] = (word / 16777216) as u8;
 }
 
 fn put_fates(image: &mut [u8; 384], row: [Standing; 16])

@@ -1,3 +1,4 @@
--- The loop over a list, and what its run promises.
+-- The loops over a list, what its run promises, and rows by computation.
 pub mod Running
 pub mod Promises
+pub mod ReplayCases

@@ -1,17 +1,18 @@
--- The run of a list on a sheet: what it comes to, demand 3 of it, and that no list of calls with byte numbers is left
--- out.
+-- The run of a list on a sheet, the runner's list or one of every kind of call: what it comes to, demand 3 of it, and
+-- that no list of calls whose numbers fit their records is left out.
 use Prim.Native.Nat.{ℕ}
 use native.Mathlib.Omega.{arith}
 use mathlib.Core.Bool.{true, false}
 use mathlib.Core.List.{List}
 use mathlib.Core.Path.{_≡_, refl, sym, _∙_, ap, subst}
 use lib.Pow.{areBytes}
-use Rattle.plan.specs.Calls.{Decoded, decode}
+use Rattle.plan.specs.Calls.{Decoded, decode, decodeAll}
 use Rattle.plan.proofs.CallRecords.{byteNumbers, decoded}
+use Rattle.plan.proofs.AnyCalls.{allFit, decoded-all}
 use Rattle.scheduler.specs.Coherent.{coherent}
 use Rattle.scheduler.specs.Sheet.{readSheet, admitted}
 use Rattle.scheduler.specs.Lists.{scheduler, after, turnedDown}
-use Rattle.scheduler.specs.Runner.{ranOn, runOn, runOf}
+use Rattle.scheduler.specs.Runner.{ranOn, runOn, runOf, replayOf}
 use Rattle.scheduler.specs.Demand.{seen, Demand3}
 use Rattle.theory.proofs.Demands.{demand3, admitted-coherent}
 use Rattle.lists.specs.Types.{Call, SheetFault, Verdict, Admitted, Faulty, State, Reading, Outcome}
@@ -28,16 +29,35 @@ unfolding runOn
 on-refused r d f at h = rw (h, runOn)
 
 -- a sheet that is admitted, and one that is turned down
+module _ (sheet : List ℕ) (r : Reading) (e : r ≡ readSheet sheet) (d : Decoded) where
+  ran-on : (o : Outcome) → r .verdict ≡ Admitted → o ≡ ranOn (r .state) d → o ≡ runOn (readSheet sheet) d
+  ran-on o h q = q ∙ sym (on-admitted r d h) ∙ ap (λ t. runOn t d) e
+
+  not-ran-on : (f : SheetFault) (at : ℕ)
+      → r .verdict ≡ Faulty f at
+      → record { verdict = r .verdict; state = r .state; refused = 0 } ≡ runOn (readSheet sheet) d
+  not-ran-on f at h = sym (on-refused r d f at h) ∙ ap (λ t. runOn t d) e
+
 module _ (sheet calls : List ℕ) (r : Reading) (e : r ≡ readSheet sheet) where
   pub ran : (o : Outcome) → r .verdict ≡ Admitted → o ≡ ranOn (r .state) (decode calls) → o ≡ runOf sheet calls
   unfolding runOf
-  ran o h q = q ∙ sym (on-admitted r (decode calls) h) ∙ ap (λ t. runOn t (decode calls)) e
+  ran = ran-on sheet r e (decode calls)
 
   pub not-ran : (f : SheetFault) (at : ℕ)
       → r .verdict ≡ Faulty f at
       → record { verdict = r .verdict; state = r .state; refused = 0 } ≡ runOf sheet calls
   unfolding runOf
-  not-ran f at h = sym (on-refused r (decode calls) f at h) ∙ ap (λ t. runOn t (decode calls)) e
+  not-ran = not-ran-on sheet r e (decode calls)
+
+  pub replayed : (o : Outcome) → r .verdict ≡ Admitted → o ≡ ranOn (r .state) (decodeAll calls) → o ≡ replayOf sheet calls
+  unfolding replayOf
+  replayed = ran-on sheet r e (decodeAll calls)
+
+  pub not-replayed : (f : SheetFault) (at : ℕ)
+      → r .verdict ≡ Faulty f at
+      → record { verdict = r .verdict; state = r .state; refused = 0 } ≡ replayOf sheet calls
+  unfolding replayOf
+  not-replayed = not-ran-on sheet r e (decodeAll calls)
 
 -- the calls start from a state that passes number 12
 pub starts : (sheet : List ℕ) (r : Reading) → r ≡ readSheet sheet → r .verdict ≡ Admitted → coherent (r .state) ≡ true
@@ -45,40 +65,46 @@ starts sheet r e h =
     admitted-coherent sheet (r .state)
     (sym e ∙ ap {B = Reading} (λ (v : Verdict). record { verdict = v; state = r .state }) h)
 
--- the run on an admitted sheet
-run-state : (sheet calls : List ℕ) (s : State)
-    → readSheet sheet ≡ admitted s
-    → runOf sheet calls ≡ ranOn s (decode calls)
-unfolding runOf
-run-state sheet calls s h = ap (λ t. runOn t (decode calls)) h ∙ on-admitted (admitted s) (decode calls) refl
+-- the run on an admitted sheet, and demand 3 of what it comes to
+module _ (sheet : List ℕ) (s : State) (h : readSheet sheet ≡ admitted s) (d : Decoded) where
+  run-state : runOn (readSheet sheet) d ≡ ranOn s d
+  run-state = ap (λ t. runOn t d) h ∙ on-admitted (admitted s) d refl
 
--- demand 3, of what a run comes to
-pub demanded : (sheet calls : List ℕ) (r : Outcome)
-    → r ≡ runOf sheet calls
-    → (s : State)
-    → readSheet sheet ≡ admitted s
-    → Demand3 (s .plan) (seen scheduler s (decode calls .calls)) (r .state)
-demanded sheet calls r e s h =
-    let q : r .state ≡ after scheduler s (decode calls .calls) = ap (λ (o : Outcome). o .state) (e ∙ run-state sheet calls s h) in
-    subst (Demand3 (s .plan) (seen scheduler s (decode calls .calls))) (sym q) (demand3 sheet s (decode calls .calls) h)
+  demanded-on : (r : Outcome) → r ≡ runOn (readSheet sheet) d → Demand3 (s .plan) (seen scheduler s (d .calls)) (r .state)
+  demanded-on r e =
+      let q : r .state ≡ after scheduler s (d .calls) = ap (λ (o : Outcome). o .state) (e ∙ run-state) in
+      subst (Demand3 (s .plan) (seen scheduler s (d .calls))) (sym q) (demand3 sheet s (d .calls) h)
 
--- bytes whose run is the run of these calls
-pub record Covered (sheet : List ℕ) (s : State) (cs : List Call) : Type 0 where
+module _ (sheet calls : List ℕ) (r : Outcome) where
+  pub demanded : r ≡ runOf sheet calls
+      → (s : State)
+      → readSheet sheet ≡ admitted s
+      → Demand3 (s .plan) (seen scheduler s (decode calls .calls)) (r .state)
+  unfolding runOf
+  demanded e s h = demanded-on sheet s h (decode calls) r e
+
+  pub replay-demanded : r ≡ replayOf sheet calls
+      → (s : State)
+      → readSheet sheet ≡ admitted s
+      → Demand3 (s .plan) (seen scheduler s (decodeAll calls .calls)) (r .state)
+  unfolding replayOf
+  replay-demanded e s h = demanded-on sheet s h (decodeAll calls) r e
+
+-- bytes, by their decoding and what they come to, whose run is the run of these calls
+pub record Covered (decoding : List ℕ → Decoded) (outcome : List ℕ → Outcome) (s : State) (cs : List Call) : Type 0 where
   pub bytes : List ℕ
   pub are-bytes : areBytes bytes ≡ true
-  pub listed : decode bytes .calls ≡ cs
-  pub uncut : decode bytes .cut ≡ false
-  pub same-state : runOf sheet bytes .state ≡ after scheduler s cs
-  pub same-count : runOf sheet bytes .refused ≡ turnedDown s cs
+  pub listed : decoding bytes .calls ≡ cs
+  pub uncut : decoding bytes .cut ≡ false
+  pub same-state : outcome bytes .state ≡ after scheduler s cs
+  pub same-count : outcome bytes .refused ≡ turnedDown s cs
 
--- every admitted sheet, every list of calls with byte numbers
-pub covered : (sheet : List ℕ) (s : State) (cs : List Call)
-    → readSheet sheet ≡ admitted s
-    → byteNumbers cs ≡ true
-    → Covered sheet s cs
-covered sheet s cs h k =
-    let t = decoded cs k in
-    let q : runOf sheet (t .0) ≡ ranOn s (record { calls = cs; cut = false }) = run-state sheet (t .0) s h ∙ ap (ranOn s) (t .2) in
+covered-by : (decoding : List ℕ → Decoded) (outcome : List ℕ → Outcome) (s : State) (cs : List Call)
+    → ((b : List ℕ) → outcome b ≡ ranOn s (decoding b))
+    → (b : List ℕ) × (areBytes b ≡ true) × (decoding b ≡ record { calls = cs; cut = false })
+    → Covered decoding outcome s cs
+covered-by decoding outcome s cs is t =
+    let q : outcome (t .0) ≡ ranOn s (record { calls = cs; cut = false }) = is (t .0) ∙ ap (ranOn s) (t .2) in
     record {
       bytes = t .0;
       are-bytes = t .1;
@@ -87,3 +113,13 @@ covered sheet s cs h k =
       same-state = ap (λ (o : Outcome). o .state) q;
       same-count = ap (λ (o : Outcome). o .refused) q ∙ omega arith;
     }
+
+-- every admitted sheet, every list of calls whose numbers fit their records; for `run` none of them moves the minute
+module _ (sheet : List ℕ) (s : State) (cs : List Call) (h : readSheet sheet ≡ admitted s) where
+  pub covered : byteNumbers cs ≡ true → Covered decode (runOf sheet) s cs
+  unfolding runOf
+  covered k = covered-by decode (runOf sheet) s cs (λ b. run-state sheet s h (decode b)) (decoded cs k)
+
+  pub replay-covered : allFit cs ≡ true → Covered decodeAll (replayOf sheet) s cs
+  unfolding replayOf
+  replay-covered k = covered-by decodeAll (replayOf sheet) s cs (λ b. run-state sheet s h (decodeAll b)) (decoded-all cs k)

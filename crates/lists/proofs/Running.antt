@@ -1,5 +1,5 @@
--- Taking record after record comes to the run of the list that the bytes decode to. Every state on the way passes
--- number 12, so only the rows after it turn a call down.
+-- Taking record after record, the runner's or of every kind, comes to the run of the list that the bytes decode to.
+-- Every state on the way passes number 12, so only the rows after it turn a call down.
 use Prim.Native.Nat.{ℕ, _+_, _-_, _≤_, _<_}
 use native.Mathlib.Omega.{arith}
 use borrow.Author.Tests.{le-leb, lt-leb}
@@ -14,7 +14,7 @@ use Rattle.plan.specs.Calls.{callSize, firstCall, Decoded, andThen, decode}
 use Rattle.plan.specs.Fates.{isOpen}
 use Rattle.plan.specs.Plans.{eventCount, hasEvent}
 use Rattle.plan.proofs.Tests.{one-le, or-right-true}
-use Rattle.plan.proofs.CallDecoding.{size-some, listed-inside, bad-inside, decode-first, decode-none, decode-broken}
+use Rattle.plan.proofs.CallDecoding.{size-some, Decodes, decodes}
 use Rattle.scheduler.specs.State.{fateOf, closedAt, Sized}
 use Rattle.scheduler.specs.Coherent.{coherent}
 use Rattle.scheduler.specs.Answers.{turnsDown, idle, accept, call}
@@ -45,31 +45,39 @@ from-bad : (s : State) (n : ℕ) → outcomeOf s (n + 1) ≡ outcomeFrom s n (re
 unfolding after turnedDown
 from-bad s n = ap (outcomeOf s) (omega arith)
 
-pub begun : (s : State) (b : List ℕ) → coherent s ≡ true → Sized s → Underway s b s 0 0
-begun s b h z = record {
+pub begun : (decoding : List ℕ → Decoded) (s : State) (b : List ℕ)
+    → coherent s ≡ true
+    → Sized s
+    → Underway decoding s b s 0 0
+begun decoding s b h z = record {
   inside = omega arith;
-  same = ap (outcomeOf (after scheduler s (decode b .calls))) (omega arith);
+  same = ap (outcomeOf (after scheduler s (decoding b .calls))) (omega arith);
   few = omega arith;
   passes = h;
   sized = z;
 }
 
 -- a call's record ends within the bytes
-pub record-fits : (b : List ℕ) (at : ℕ)
+pub record-fits : {first : List ℕ → CallRead} {decoding : List ℕ → Decoded}
+    → Decodes first decoding
+    → (b : List ℕ) (at : ℕ)
     → at ≤ length b
     → (read : CallRead)
-    → read ≡ firstCall (drop at b)
+    → read ≡ first (drop at b)
     → (c : Call)
     → read ≡ Listed c
     → at + callSize c ≤ length b
-record-fits b at le read is c h = omega (arith, listed-inside (drop at b) c (sym is ∙ h), length-drop at b)
+record-fits k b at le read is c h = omega (arith, k .listed-inside (drop at b) c (sym is ∙ h), length-drop at b)
 
 -- one record
-module _ {s t : State} {b : List ℕ} {at n : ℕ} (u : Underway s b t at n) (read : CallRead) (is : read ≡ firstCall (drop at b)) where
+module _
+    {first : List ℕ → CallRead} {decoding : List ℕ → Decoded} (k : Decodes first decoding)
+    {s t : State} {b : List ℕ} {at n : ℕ} (u : Underway decoding s b t at n)
+    (read : CallRead) (is : read ≡ first (drop at b)) where
   -- a call
   module _ (c : Call) (h : read ≡ Listed c) (size : ℕ) (long : size ≡ callSize c) where
     pub inside-listed : at + size ≤ length b
-    inside-listed = omega (arith, long, record-fits b at (u .inside) read is c h)
+    inside-listed = omega (arith, long, record-fits k b at (u .inside) read is c h)
 
     pub less : length b - (at + size) < length b - at
     less = omega (arith, long, size-some c, inside-listed)
@@ -78,14 +86,14 @@ module _ {s t : State} {b : List ℕ} {at n : ℕ} (u : Underway s b t at n) (re
     abbrev count : ℕ
     count = n + oneIf (isTurnedDown (call t c .answer))
 
-    made : (w : State) (m : ℕ) → w ≡ call t c .state → m ≡ count → Underway s b w (at + size) m
+    made : (w : State) (m : ℕ) → w ≡ call t c .state → m ≡ count → Underway decoding s b w (at + size) m
     made w m e f = rw (e, f) (record {
       inside = inside-listed;
       same =
-          ap (λ k. outcomeFrom (call t c .state) count (decode (drop (at + k) b))) long
-          ∙ ap (λ l. outcomeFrom (call t c .state) count (decode l)) (sym (drop-drop (callSize c) at b))
-          ∙ from-call t n c (decode (drop (callSize c) (drop at b)))
-          ∙ ap (outcomeFrom t n) (sym (decode-first (drop at b) c (sym is ∙ h)))
+          ap (λ i. outcomeFrom (call t c .state) count (decoding (drop (at + i) b))) long
+          ∙ ap (λ l. outcomeFrom (call t c .state) count (decoding l)) (sym (drop-drop (callSize c) at b))
+          ∙ from-call t n c (decoding (drop (callSize c) (drop at b)))
+          ∙ ap (outcomeFrom t n) (sym (k .at-call (drop at b) c (sym is ∙ h)))
           ∙ u .same;
       few = omega (arith, long, u .few, size-some c, one-le (isTurnedDown (call t c .answer)));
       passes = call-coherent t c (u .sized) (u .passes);
@@ -93,19 +101,23 @@ module _ {s t : State} {b : List ℕ} {at n : ℕ} (u : Underway s b t at n) (re
     })
 
     -- turned down: the state stays, and the call counts
-    pub again-refused : (w : State) (m : ℕ) → turnsDown t c ≡ true → w ≡ t → m ≡ n + 1 → Underway s b w (at + size) m
+    pub again-refused : (w : State) (m : ℕ)
+        → turnsDown t c ≡ true
+        → w ≡ t
+        → m ≡ n + 1
+        → Underway decoding s b w (at + size) m
     again-refused w m d e f =
         let q = turned-down t c (u .passes) d in
         made w m
         (e ∙ sym (ap (λ (r : Reply). r .state) (call-fault t c (q .0) (q .1))))
-        (f ∙ ap (λ (k : Bool). n + oneIf k) (sym (ap isTurnedDown (fault-answer t c (q .0) (q .1)))))
+        (f ∙ ap (λ (x : Bool). n + oneIf x) (sym (ap isTurnedDown (fault-answer t c (q .0) (q .1)))))
 
     -- taken
     pub again-taken : (w : State) (m : ℕ)
         → turnsDown t c ≡ false
         → w ≡ accept t c .state
         → m ≡ n
-        → Underway s b w (at + size) m
+        → Underway decoding s b w (at + size) m
     again-taken w m d e f =
         let q = not-turned-down t c (u .passes) d in
         made w m
@@ -118,59 +130,61 @@ module _ {s t : State} {b : List ℕ} {at n : ℕ} (u : Underway s b t at n) (re
         → idle t c ≡ true
         → w ≡ t
         → m ≡ n
-        → Underway s b w (at + size) m
+        → Underway decoding s b w (at + size) m
     again-idle w m d i e f = again-taken w m d (e ∙ sym (idle-same t c i)) f
 
-  -- a call that leaves the state as it is, by what the code reads of it
-  module _ (c : Call) (h : read ≡ Listed c) (m : ℕ) where
-    pub skip-unknown : (e : ℕ) → c ≡ Submit e → eventCount (t .plan) ≤ e → m ≡ n + 1 → Underway s b t (at + 2) m
-    skip-unknown e k ge f =
-        again-refused c h 2 (sym (ap callSize k)) t m (ap (turnsDown t) k ∙ sym (submit-turns t e) ∙ le-leb _ _ ge) refl f
-
-    pub skip-submitted : (e : ℕ) (o : Bool)
-        → c ≡ Submit e
-        → e < eventCount (t .plan)
-        → o ≡ isOpen (fateOf t e)
-        → o ≡ false
-        → m ≡ n
-        → Underway s b t (at + 2) m
-    skip-submitted e o k lt opened settled f =
-        again-idle c h 2 (sym (ap callSize k)) t m
-        (ap (turnsDown t) k ∙ sym (submit-turns t e) ∙ lt-leb _ _ lt)
-        (sym (submit-idle t c e o k opened) ∙ ap not settled)
-        refl f
-
-    pub skip-closed : (j : ℕ) → c ≡ Close j → closedAt t j ≡ true → m ≡ n + 1 → Underway s b t (at + 2) m
-    skip-closed j k shut f =
-        again-refused c h 2 (sym (ap callSize k)) t m
-        (ap (turnsDown t) k
-        ∙ sym (close-turns t j)
-        ∙ ap (λ (x : Bool). not (hasEvent (t .plan) j) || x) shut
-        ∙ or-right-true (not (hasEvent (t .plan) j)))
-        refl f
-
-    pub skip-unclosed : c ≡ Finish → turnsDown t Finish ≡ true → m ≡ n + 1 → Underway s b t (at + 1) m
-    skip-unclosed k down f = again-refused c h 1 (sym (ap callSize k)) t m (ap (turnsDown t) k ∙ down) refl f
-
-    pub skip-finished : c ≡ Finish
-        → turnsDown t Finish ≡ false
-        → idle t Finish ≡ true
-        → m ≡ n
-        → Underway s b t (at + 1) m
-    skip-finished k taken still f =
-        again-idle c h 1 (sym (ap callSize k)) t m (ap (turnsDown t) k ∙ taken) (ap (idle t) k ∙ still) refl f
-
   -- the end
-  pub ended : read ≡ End → outcomeOf t n ≡ ranOn s (decode b)
-  ended h = from-end t n ∙ ap (outcomeFrom t n) (sym (decode-none (drop at b) (sym is ∙ h))) ∙ u .same
+  pub ended : read ≡ End → outcomeOf t n ≡ ranOn s (decoding b)
+  ended h = from-end t n ∙ ap (outcomeFrom t n) (sym (k .at-end (drop at b) (sym is ∙ h))) ∙ u .same
 
   -- a bad record
-  pub bad-ended : read ≡ Bad → outcomeOf t (n + 1) ≡ ranOn s (decode b)
-  bad-ended h = from-bad t n ∙ ap (outcomeFrom t n) (sym (decode-broken (drop at b) (sym is ∙ h))) ∙ u .same
+  pub bad-ended : read ≡ Bad → outcomeOf t (n + 1) ≡ ranOn s (decoding b)
+  bad-ended h = from-bad t n ∙ ap (outcomeFrom t n) (sym (k .at-bad (drop at b) (sym is ∙ h))) ∙ u .same
 
   -- one call more can be counted
   pub listed-room : (c : Call) → read ≡ Listed c → n < length b
   listed-room c h = omega (arith, u .few, size-some c, inside-listed c h (callSize c) refl)
 
   pub bad-room : read ≡ Bad → n < length b
-  bad-room h = omega (arith, u .inside, u .few, bad-inside (drop at b) (sym is ∙ h), length-drop at b)
+  bad-room h = omega (arith, u .inside, u .few, k .bad-inside (drop at b) (sym is ∙ h), length-drop at b)
+
+-- one of the runner's that leaves the state as it is, by what the code reads of it
+module _
+    {s t : State} {b : List ℕ} {at n : ℕ} (u : Underway decode s b t at n)
+    (read : CallRead) (is : read ≡ firstCall (drop at b)) (c : Call) (h : read ≡ Listed c) (m : ℕ) where
+  pub skip-unknown : (e : ℕ) → c ≡ Submit e → eventCount (t .plan) ≤ e → m ≡ n + 1 → Underway decode s b t (at + 2) m
+  skip-unknown e k ge f =
+      again-refused decodes u read is c h 2 (sym (ap callSize k)) t m (ap (turnsDown t) k ∙ sym (submit-turns t e) ∙ le-leb _ _ ge) refl f
+
+  pub skip-submitted : (e : ℕ) (o : Bool)
+      → c ≡ Submit e
+      → e < eventCount (t .plan)
+      → o ≡ isOpen (fateOf t e)
+      → o ≡ false
+      → m ≡ n
+      → Underway decode s b t (at + 2) m
+  skip-submitted e o k lt opened settled f =
+      again-idle decodes u read is c h 2 (sym (ap callSize k)) t m
+      (ap (turnsDown t) k ∙ sym (submit-turns t e) ∙ lt-leb _ _ lt)
+      (sym (submit-idle t c e o k opened) ∙ ap not settled)
+      refl f
+
+  pub skip-closed : (j : ℕ) → c ≡ Close j → closedAt t j ≡ true → m ≡ n + 1 → Underway decode s b t (at + 2) m
+  skip-closed j k shut f =
+      again-refused decodes u read is c h 2 (sym (ap callSize k)) t m
+      (ap (turnsDown t) k
+      ∙ sym (close-turns t j)
+      ∙ ap (λ (x : Bool). not (hasEvent (t .plan) j) || x) shut
+      ∙ or-right-true (not (hasEvent (t .plan) j)))
+      refl f
+
+  pub skip-unclosed : c ≡ Finish → turnsDown t Finish ≡ true → m ≡ n + 1 → Underway decode s b t (at + 1) m
+  skip-unclosed k down f = again-refused decodes u read is c h 1 (sym (ap callSize k)) t m (ap (turnsDown t) k ∙ down) refl f
+
+  pub skip-finished : c ≡ Finish
+      → turnsDown t Finish ≡ false
+      → idle t Finish ≡ true
+      → m ≡ n
+      → Underway decode s b t (at + 1) m
+  skip-finished k taken still f =
+      again-idle decodes u read is c h 1 (sym (ap callSize k)) t m (ap (turnsDown t) k ∙ taken) (ap (idle t) k ∙ still) refl f

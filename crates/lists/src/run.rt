@@ -60,7 +60,17 @@ fn take_calls(state: State, calls: &[u8]) -> Outcome
                 if next.turns_down(made) {
                     refused += 1;
                 } else {
-                    next = next.after_call(made);
+                    let course = next.after_call(made);
+                    let standings = course.standings;
+                    let broken = course.broken;
+                    let closed = course.closed;
+                    let history = course.history;
+                    next.standings = standings;
+                    next.broken = broken;
+                    next.closed = closed;
+                    next.history = history;
+                    next.history_len = course.history_len;
+                    next.minute = course.minute;
                 }
                 at += call_size(made);
             }
@@ -93,7 +103,7 @@ struct Skipped {
 fn skip_idle(state: State, calls: &[u8], from: usize, before: usize) -> Skipped
     requires { ⌜ ((before ≤ from) × (from ≤ length (now calls))) ⌝ }
     ensures ahead { λ r. ⌜ from ≤ r .at ⌝ }
-    ensures same { λ r. ⌜ ((s : State) → Underway s (now (calls .entry)) state from before → Underway s (now (calls .entry)) state (r .at) (r .refused)) ⌝ }
+    ensures same { λ r. ⌜ ((s : State) → Underway decode s (now (calls .entry)) state from before → Underway decode s (now (calls .entry)) state (r .at) (r .refused)) ⌝ }
 {
     let unclosed = state.turns_down(Call::Finish);
     let plan = state.plan;
@@ -139,6 +149,9 @@ fn skip_idle(state: State, calls: &[u8], from: usize, before: usize) -> Skipped
                         }
                     }
                     at += 1;
+                }
+                Call::Advance(minute) => {
+                    return Skipped { at, refused };
                 }
             },
             CallRead::End => {

@@ -16,7 +16,7 @@ use Rattle.members.specs.Sets.{inSet}
 abbrev odd : ℕ → Bool
 odd n = eqb (n % 2) 1
 
-in-odd : (m x : ℕ) → inSet m x ≡ (ltb x 16 && odd (m / 2 ^ x))
+pub in-odd : (m x : ℕ) → inSet m x ≡ (ltb x 16 && odd (m / 2 ^ x))
 unfolding inSet
 in-odd m x = ap (λ (n : ℕ). ltb x 16 && eqb n 1) (and-mask (m / 2 ^ x) 1)
 

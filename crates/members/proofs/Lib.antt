@@ -3,6 +3,7 @@ pub mod Bits
 pub mod Lowest
 pub mod PlaceReads
 pub mod Views
+pub mod Clocking
 pub mod ViewAfter
 pub mod RuleSets
 pub mod Blocking

@@ -14,6 +14,8 @@ pub use Rattle.plan.specs.declared.rule.Rule.{Rule}
 pub use Rattle.plan.specs.declared.rule.Rule.the-variants.{Order, Need, Conditional}
 pub use Rattle.plan.specs.declared.rule.RuleLine.{RuleLine}
 pub use Rattle.plan.specs.declared.plan.Plan.{Plan}
+pub use Rattle.plan.specs.declared.window.Window.{Window}
+pub use Rattle.members.specs.declared.times.Times.{Times}
 pub use Rattle.members.specs.declared.view.View.{View}
 pub use Rattle.members.specs.declared.view.Facts.{Facts}
 pub use Rattle.members.specs.declared.closed.Members.{Members}

@@ -16,10 +16,10 @@ ghost use Rattle.members.specs.Lacking.{lacking, Spared};
 
 // The events at hand, without those of which a rule asks for an event that is not at hand, once over the rules. The last
 // rule comes first: so a chain of needs, as it is mostly written down, falls in one pass.
-pub fn spare(rules: [RuleLine; 16], broken: [bool; 16], count: u8, view: View) -> u16
-    ensures { λ r. ⌜ ((p : Plan) (f : Fates) → p .rules ≡ rules → ruleCount p ≡ count → Shows p f view → Spared p (unbroken broken) f (inSet (view .able)) (inSet r)) ⌝ }
+pub fn spare(rules: [RuleLine; 16], broken: [bool; 16], count: u8, view: View, hand: u16) -> u16
+    ensures { λ r. ⌜ ((p : Plan) (f : Fates) → p .rules ≡ rules → ruleCount p ≡ count → Shows p f view → Spared p (unbroken broken) f (inSet hand) (inSet r)) ⌝ }
 {
-    let mut able = view.able;
+    let mut able = hand;
     let mut i: u8 = count;
     while 0 < i {
         i -= 1;

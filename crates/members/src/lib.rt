@@ -5,4 +5,5 @@ pub mod closed;
 pub mod lacking;
 pub mod rule;
 pub mod set;
+pub mod times;
 pub mod view;

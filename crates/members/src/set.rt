@@ -53,16 +53,9 @@ pub fn without(set: u16, other: u16) -> u16
     set ^ (set & other)
 }
 
-// The lowest event of the set; 16 if there is none.
+// The lowest event of the set, the number of zeros below the lowest bit; 16 if there is none.
 pub fn lowest_of(set: u16) -> u8
     ensures { λ r. ⌜ r ≡ orSixteen (lowest 16 (inSet set)) ⌝ }
 {
-    let mut e: u8 = 0;
-    while e < 16 {
-        if is_in(set, e) {
-            return e;
-        }
-        e += 1;
-    }
-    16
+    u16::trailing_zeros(set) as u8
 }

@@ -152,6 +152,13 @@ keep-member m (c ∷ o) x t h = elim (either (m c)) [
   | inr u ↦ rw (keep-out m c o u) (elim (among-cases x c o h) [ inl q ↦ absurd (clash t (subst (λ (z : ℕ). m z ≡ false) (sym q) u)) | inr v ↦ keep-member m o x t v ])
 ]
 
+pub keep-before : (m : Events) (o : List ℕ) (x : ℕ) → among x (keep m o) ≡ true → among x o ≡ true
+keep-before m [] x h = unfold keep in h
+keep-before m (c ∷ o) x h = elim (either (m c)) [
+  | inl u ↦ elim (among-cases x c (keep m o) (rw (keep-in m c o u) at h)) [ inl q ↦ among-head x c o q | inr v ↦ among-tail x c o (keep-before m o x v) ]
+  | inr u ↦ among-tail x c o (keep-before m o x (rw (keep-out m c o u) at h))
+]
+
 -- nothing was cut off
 pub keep-all : (m : Events) (o : List ℕ) → length o ≤ length (keep m o) → (x : ℕ) → among x o ≡ true → m x ≡ true
 keep-all m [] le x h = absurd (among-none x h)

@@ -12,10 +12,10 @@ use Rattle.plan.specs.Prelude.{Rule, Order, Need, Conditional, Plan}
 use Rattle.plan.specs.Base.{anyBelow, allBelow, countBelow, thoseBelow, among, when, firstOf, tabulate, lowest}
 use Rattle.plan.specs.Base.{readAt, storeAt}
 use Rattle.plan.specs.Fates.{Fates, isOpen, isHeld, isDone, isGone, isSettled, doneAs, fateNumber}
-use Rattle.plan.specs.Plans.{emptyPlan, hasEvent}
-use Rattle.plan.specs.Rules.{named, enforceable, soundEvent, soundRule, unstoppable, reckoned, triggered, bars, makesWait, forbids, owes, ready}
+use Rattle.plan.specs.Plans.{emptyPlan, hasEvent, allowedAt, overAt, allowedIn, overIn}
+use Rattle.plan.specs.Rules.{named, enforceable, badWindow, soundWindow, soundWindows, soundEvent, soundRule, unstoppable, reckoned, triggered, bars, makesWait, forbids, owes, ready}
 use Rattle.plan.specs.Histories.{fatesIn, anyDone, doneIn, doneInTurn, holds, declaredOnly, sameFates, listedAs}
-use Rattle.plan.specs.Records.{addEvent, addRule}
+use Rattle.plan.specs.Records.{addEvent, addRule, addWindow}
 
 -- the numbers below 8, and the fates
 abbrev below8 : List ℕ
@@ -55,6 +55,7 @@ eight = record {
   «event_count» = 8;
   rules = emptyPlan .rules;
   «rule_count» = 0;
+  windows = emptyPlan .windows;
 }
 
 -- these fates, and Open for the other events
@@ -171,6 +172,22 @@ pub sound :
     × (map (λ r. soundRule (addRule eight r) 0) (Need 2 7 ∷ Need 2 8 ∷ Need 0 6 ∷ []) ≡ true ∷ false ∷ false ∷ [])
 unfolding anyBelow hasEvent soundEvent soundRule named enforceable addEvent addRule
 sound = (refl, refl, refl, refl)
+
+-- S-7. Event 6 with a window from 2 until 5: the minutes at which it may be done, at which its window is over; the same of
+-- an event without one; windows that a sheet may not give, and plans whose windows pass
+abbrev clock : Plan
+clock = addWindow eight 6 2 5
+
+pub windowed :
+    (those (λ m. allowedAt clock m 6) below8 ≡ 2 ∷ 3 ∷ 4 ∷ [])
+    × (those (λ m. overAt clock m 6) below8 ≡ 5 ∷ 6 ∷ 7 ∷ [])
+    × (those (λ m. allowedAt clock m 7) below8 ++ those (λ m. overAt clock m 7) below8 ≡ below8)
+    × (those (λ e. badWindow clock e 2 5) below8 ≡ 0 ∷ 1 ∷ 2 ∷ 3 ∷ 6 ∷ [])
+    × (map (λ e. badWindow eight e 0 1) (6 ∷ 8 ∷ 16 ∷ []) ≡ false ∷ true ∷ true ∷ [])
+    × (those (λ m. badWindow eight 6 4 m) below8 ≡ 0 ∷ 1 ∷ 2 ∷ 3 ∷ 4 ∷ [])
+    × (map soundWindows (eight ∷ clock ∷ addWindow eight 3 2 5 ∷ addWindow eight 6 5 5 ∷ addWindow eight 6 1 0 ∷ addWindow eight 8 2 5 ∷ []) ≡ true ∷ true ∷ false ∷ false ∷ false ∷ false ∷ [])
+unfolding allBelow addWindow allowedAt allowedIn overAt overIn badWindow soundWindow soundWindows
+windowed = (refl, refl, refl, refl, refl, refl, refl)
 
 -- a line of a history, and one of events that are done
 abbrev line : ℕ → Fate → Entry

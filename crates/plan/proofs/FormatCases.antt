@@ -5,16 +5,16 @@ use mathlib.Core.Bool.{Bool, true, false}
 use mathlib.Core.List.{List, [], _∷_, _++_, map}
 use mathlib.Core.Path.{_≡_, refl}
 use lib.ListN.{take}
-use Rattle.plan.specs.Prelude.{FateAnswered, Held, Rule, Order, Need, Conditional, Call, Submit, Close, Finish}
-use Rattle.plan.specs.Prelude.{Cut, BadKind, Full, BadStep, BadAttributes, BadNames, Unenforceable, Extra}
-use Rattle.plan.specs.Prelude.{Unknown, AlreadyClosed, NotClosed, Incoherent, TooLong, NoRoom, Answer, Is, Made, TurnedDown}
+use Rattle.plan.specs.Prelude.{FateAnswered, Held, Rule, Order, Need, Conditional, Call, Submit, Close, Finish, Advance}
+use Rattle.plan.specs.Prelude.{Cut, BadKind, Full, BadStep, BadAttributes, BadNames, Unenforceable, Extra, BadWindow}
+use Rattle.plan.specs.Prelude.{Unknown, AlreadyClosed, NotClosed, Incoherent, TooLong, NoRoom, Backward, Answer, Is, Made, TurnedDown}
 use Rattle.plan.specs.Plans.{eventCount, ruleCount}
-use Rattle.plan.specs.Rules.{named, enforceable}
+use Rattle.plan.specs.Rules.{named, enforceable, badWindow}
 use Rattle.plan.specs.Faults.{sheetFaultNumber, callFaultNumber, firstFault}
 use Rattle.plan.specs.Faults.{answerNumber, answerFate, isTurnedDown}
-use Rattle.plan.specs.Records.{ruleOf, addEvent, addRule, addEvents, declare, recordFault}
+use Rattle.plan.specs.Records.{ruleOf, addEvent, addRule, addWindow, addEvents, declare, recordFault}
 use Rattle.plan.specs.Sheets.{PlanReading, whole, faulty, readFrom, readPlan, ending, sheetPlan}
-use Rattle.plan.specs.Calls.{firstCall, Decoded, decodeUpTo, decode, encode}
+use Rattle.plan.specs.Calls.{firstCall, advanceIn, anyCallFirst, Decoded, decodeUpTo, decode, decodeAll, encode}
 
 -- what a sheet comes to: how many events and rules it declares and where it ends, or its fault's number and offset
 pub data Outcome : Type 0 where
@@ -49,9 +49,9 @@ sheets =
     ∷ (6 ∷ [], rejected 1 0)
     ∷ (1 ∷ 0 ∷ 6 ∷ 4 ∷ 0 ∷ 1 ∷ [], rejected 1 3)
     ∷ (6 ∷ 0 ∷ [], rejected 1 2)
-    -- 2: kind 0 and above 6, also as the last byte
+    -- 2: kind 0 and above 7, also as the last byte
     ∷ (0 ∷ 5 ∷ [], rejected 2 0)
-    ∷ (6 ∷ 0 ∷ 7 ∷ [], rejected 2 2)
+    ∷ (6 ∷ 0 ∷ 8 ∷ [], rejected 2 2)
     -- 3: the 17th event, by kinds 1 and 6, and the 17th rule; before its step or names are looked at, not where it is
     -- cut
     ∷ (sixteenEvents ++ (5 ∷ []), declaring 16 0 9)
@@ -94,15 +94,26 @@ sheets =
     -- 8: the first extra byte, whatever it is
     ∷ (5 ∷ 5 ∷ [], rejected 8 1)
     ∷ (6 ∷ 0 ∷ 5 ∷ 9 ∷ 9 ∷ [], rejected 8 3)
+    -- 15: taken; on an event undeclared or declared below, not delayable, with a window; until not above from, also as
+    -- numbers of four bytes, lowest first; after length
+    ∷ (1 ∷ 0 ∷ 6 ∷ 7 ∷ 0 ∷ 0 ∷ 0 ∷ 0 ∷ 0 ∷ 1 ∷ 0 ∷ 0 ∷ 0 ∷ 5 ∷ [], declaring 1 0 14)
+    ∷ (1 ∷ 0 ∷ 6 ∷ 7 ∷ 0 ∷ 255 ∷ 0 ∷ 0 ∷ 0 ∷ 0 ∷ 1 ∷ 0 ∷ 0 ∷ 5 ∷ [], declaring 1 0 14)
+    ∷ (1 ∷ 0 ∷ 6 ∷ 7 ∷ 0 ∷ 0 ∷ 0 ∷ 0 ∷ 1 ∷ 255 ∷ 255 ∷ 255 ∷ 0 ∷ 5 ∷ [], rejected 15 3)
+    ∷ (1 ∷ 0 ∷ 6 ∷ 7 ∷ 1 ∷ 0 ∷ 0 ∷ 0 ∷ 0 ∷ 1 ∷ 0 ∷ 0 ∷ 0 ∷ 1 ∷ 0 ∷ 6 ∷ 5 ∷ [], rejected 15 3)
+    ∷ (1 ∷ 0 ∷ 3 ∷ 7 ∷ 0 ∷ 0 ∷ 0 ∷ 0 ∷ 0 ∷ 1 ∷ 0 ∷ 0 ∷ 0 ∷ 5 ∷ [], rejected 15 3)
+    ∷ (1 ∷ 0 ∷ 6 ∷ 7 ∷ 0 ∷ 0 ∷ 0 ∷ 0 ∷ 0 ∷ 1 ∷ 0 ∷ 0 ∷ 0 ∷ 7 ∷ 0 ∷ 0 ∷ 0 ∷ 0 ∷ 0 ∷ 1 ∷ 0 ∷ 0 ∷ 0 ∷ 5 ∷ [], rejected 15 13)
+    ∷ (1 ∷ 0 ∷ 6 ∷ 7 ∷ 0 ∷ 0 ∷ 0 ∷ 0 ∷ 0 ∷ 0 ∷ 0 ∷ 0 ∷ 0 ∷ 5 ∷ [], rejected 15 3)
+    ∷ (1 ∷ 0 ∷ 6 ∷ 7 ∷ 0 ∷ 3 ∷ 0 ∷ 0 ∷ 0 ∷ 3 ∷ 0 ∷ 0 ∷ 0 ∷ 5 ∷ [], rejected 15 3)
+    ∷ (7 ∷ 9 ∷ 0 ∷ 0 ∷ 0 ∷ 0 ∷ 1 ∷ 0 ∷ 0 ∷ [], rejected 1 0)
     ∷ []
 
 pub judged : map (λ (c : Case). outcome (sheetPlan (c .0))) sheets ≡ map (λ (c : Case). c .1) sheets
-unfolding named enforceable firstFault ruleOf addEvent addRule addEvents declare recordFault readFrom readPlan ending sheetPlan
+unfolding named enforceable badWindow firstFault ruleOf addEvent addRule addWindow addEvents declare recordFault readFrom readPlan ending sheetPlan
 judged = refl
 
 -- the first fault counts, and a plan may be followed by other bytes where no sheet has to end with it
 pub first-fault :
-    map (λ b. outcome (readPlan b)) ((6 ∷ 8 ∷ 7 ∷ []) ∷ (7 ∷ 6 ∷ 8 ∷ []) ∷ (6 ∷ 0 ∷ 5 ∷ 9 ∷ []) ∷ [])
+    map (λ b. outcome (readPlan b)) ((6 ∷ 8 ∷ 8 ∷ []) ∷ (8 ∷ 6 ∷ 8 ∷ []) ∷ (6 ∷ 0 ∷ 5 ∷ 9 ∷ []) ∷ [])
     ≡ rejected 4 0 ∷ rejected 2 0 ∷ declaring 4 0 3 ∷ []
 unfolding firstFault addEvent addEvents declare recordFault readFrom readPlan
 first-fault = refl
@@ -119,7 +130,7 @@ declares (whole p at) = (
 pub declared :
     declares (sheetPlan (6 ∷ 3 ∷ 1 ∷ 7 ∷ 2 ∷ 2 ∷ 2 ∷ 0 ∷ 3 ∷ 0 ∷ 1 ∷ 4 ∷ 1 ∷ 4 ∷ 3 ∷ 5 ∷ []))
     ≡ ((3, 7) ∷ (3, 0) ∷ (3, 6) ∷ (3, 1) ∷ (7, 2) ∷ [], Order 2 0 ∷ Need 0 1 ∷ Conditional 1 4 3 ∷ [])
-unfolding named enforceable firstFault ruleOf addEvent addRule addEvents declare recordFault readFrom readPlan ending sheetPlan
+unfolding named enforceable badWindow firstFault ruleOf addEvent addRule addWindow addEvents declare recordFault readFrom readPlan ending sheetPlan
 declared = refl
 
 abbrev read : List Call → Bool → Decoded
@@ -145,19 +156,40 @@ pub listed-calls :
 unfolding firstCall decodeUpTo decode
 listed-calls = refl
 
-pub encoded : encode (Finish ∷ Submit 3 ∷ Close 7 ∷ []) ≡ 18 ∷ 16 ∷ 3 ∷ 17 ∷ 7 ∷ []
+-- of every kind: a minute's bytes, lowest first; 19 as a number, and the greatest minute; cut at kind 19 and at kind 17;
+-- kind 20
+pub listed-any-calls :
+    map decodeAll (
+    (19 ∷ 1 ∷ 2 ∷ 3 ∷ 4 ∷ 18 ∷ [])
+    ∷ (16 ∷ 19 ∷ 19 ∷ 255 ∷ 255 ∷ 255 ∷ 255 ∷ [])
+    ∷ (18 ∷ 19 ∷ 0 ∷ 0 ∷ 0 ∷ [])
+    ∷ (19 ∷ 0 ∷ 0 ∷ 0 ∷ 0 ∷ 17 ∷ [])
+    ∷ (18 ∷ 20 ∷ 18 ∷ [])
+    ∷ []
+    ∷ [])
+    ≡ read (Advance 67305985 ∷ Finish ∷ []) false
+    ∷ read (Submit 19 ∷ Advance 4294967295 ∷ []) false
+    ∷ read (Finish ∷ []) true
+    ∷ read (Advance 0 ∷ []) true
+    ∷ read (Finish ∷ []) true
+    ∷ read [] false
+    ∷ []
+unfolding firstCall advanceIn anyCallFirst decodeUpTo decodeAll
+listed-any-calls = refl
+
+pub encoded : encode (Finish ∷ Submit 3 ∷ Close 7 ∷ Advance 513 ∷ []) ≡ 18 ∷ 16 ∷ 3 ∷ 17 ∷ 7 ∷ 19 ∷ 1 ∷ 2 ∷ 0 ∷ 0 ∷ []
 unfolding encode
 encoded = refl
 
 -- the faults' numbers
 pub sheet-numbers :
-    map sheetFaultNumber (Cut ∷ BadKind ∷ Full ∷ BadStep ∷ BadAttributes ∷ BadNames ∷ Unenforceable ∷ Extra ∷ [])
-    ≡ 1 ∷ 2 ∷ 3 ∷ 4 ∷ 5 ∷ 6 ∷ 7 ∷ 8 ∷ []
+    map sheetFaultNumber (Cut ∷ BadKind ∷ Full ∷ BadStep ∷ BadAttributes ∷ BadNames ∷ Unenforceable ∷ Extra ∷ BadWindow ∷ [])
+    ≡ 1 ∷ 2 ∷ 3 ∷ 4 ∷ 5 ∷ 6 ∷ 7 ∷ 8 ∷ 15 ∷ []
 sheet-numbers = refl
 
 pub call-numbers :
-    map callFaultNumber (Unknown ∷ AlreadyClosed ∷ NotClosed ∷ Incoherent ∷ TooLong ∷ NoRoom ∷ [])
-    ≡ 9 ∷ 10 ∷ 11 ∷ 12 ∷ 13 ∷ 14 ∷ []
+    map callFaultNumber (Unknown ∷ AlreadyClosed ∷ NotClosed ∷ Incoherent ∷ TooLong ∷ NoRoom ∷ Backward ∷ [])
+    ≡ 9 ∷ 10 ∷ 11 ∷ 12 ∷ 13 ∷ 14 ∷ 16 ∷ []
 call-numbers = refl
 
 abbrev answers : List Answer

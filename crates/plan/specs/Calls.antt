@@ -1,16 +1,23 @@
 -- The call records: a call's bytes, and the calls that bytes list.
-use Rattle.plan.specs.Prelude.{ℕ, zero, suc, Bool, true, false, List, [], _∷_, _++_, eqb, drop, length, Call, Submit, Close, Finish, CallRead, Listed, End, Bad}
+use Rattle.plan.specs.Prelude.{ℕ, zero, suc, _/_, _%_, Bool, true, false, List, [], _∷_, _++_, eqb, ltb, drop, length, Call, Submit, Close, Finish, Advance, CallRead, Listed, End, Bad}
+use Rattle.plan.specs.Records.{wordAt}
 
--- a call's record: a kind byte, and for two of the three kinds one number (13.2)
+-- a number as four bytes, the lowest first (3.5)
+abbrev pub bytesOf : ℕ → List ℕ
+bytesOf m = m % 256 ∷ m / 256 % 256 ∷ m / 65536 % 256 ∷ m / 16777216 ∷ []
+
+-- a call's record: a kind byte, and a number of one byte, for the minute of four (13.2)
 abbrev pub callBytes : Call → List ℕ
 callBytes (Submit e) = 16 ∷ e ∷ []
 callBytes (Close k) = 17 ∷ k ∷ []
 callBytes Finish = 18 ∷ []
+callBytes (Advance m) = 19 ∷ bytesOf m
 
 abbrev pub callSize : Call → ℕ
 callSize (Submit e) = 2
 callSize (Close k) = 2
 callSize Finish = 1
+callSize (Advance m) = 5
 
 -- the call of a record of kind k that one byte more, x, may belong to (13.2)
 abbrev pub callOf : ℕ → ℕ → CallRead
@@ -22,11 +29,20 @@ callOf k x = elim (eqb k 16) [
   ]
 ]
 
--- the record at the front of bytes; a cut record and another kind are bad (13.3)
+-- the record at the front of the runner's bytes, of kind 16 to 18; a cut record and another kind are bad (13.3)
 unfoldable pub firstCall : List ℕ → CallRead
 firstCall [] = End
 firstCall (k ∷ []) = elim (eqb k 18) [ true ↦ Listed Finish | false ↦ Bad ]
 firstCall (k ∷ x ∷ b) = callOf k x
+
+-- the call that four bytes after a kind 19 give; fewer are a cut record (13.2)
+unfoldable pub advanceIn : List ℕ → CallRead
+advanceIn b = elim (ltb (length b) 4) [ true ↦ Bad | false ↦ Listed (Advance (wordAt b 0)) ]
+
+-- the record at the front of bytes that may list every call: of kind 19, or one of the runner's (13.2)
+unfoldable pub anyCallFirst : List ℕ → CallRead
+anyCallFirst [] = End
+anyCallFirst (k ∷ b) = elim (eqb k 19) [ true ↦ advanceIn b | false ↦ firstCall (k ∷ b) ]
 
 -- the calls that bytes list, and whether the reading ended at a bad record (13.3)
 pub record Decoded : Type 0 where
@@ -36,17 +52,23 @@ pub record Decoded : Type 0 where
 abbrev pub andThen : Call → Decoded → Decoded
 andThen c d = record { calls = c ∷ d .calls; cut = d .cut }
 
--- record after record, up to the end or the first bad one. At most n records; `decode` has enough (13.3)
-unfoldable pub decodeUpTo : ℕ → List ℕ → Decoded
-decodeUpTo zero b = record { calls = []; cut = false }
-decodeUpTo (suc n) b = elim (firstCall b) [
-  | Listed c ↦ andThen c (decodeUpTo n (drop (callSize c) b))
+-- record after record, as `first` reads the one at the front, up to the end or the first bad one. At most n records;
+-- the two readings below have enough (13.3)
+unfoldable pub decodeUpTo : (List ℕ → CallRead) → ℕ → List ℕ → Decoded
+decodeUpTo first zero b = record { calls = []; cut = false }
+decodeUpTo first (suc n) b = elim (first b) [
+  | Listed c ↦ andThen c (decodeUpTo first n (drop (callSize c) b))
   | End ↦ record { calls = []; cut = false }
   | Bad ↦ record { calls = []; cut = true }
 ]
 
+-- the runner's bytes (13.3)
 unfoldable pub decode : List ℕ → Decoded
-decode b = decodeUpTo (length b) b
+decode b = decodeUpTo firstCall (length b) b
+
+-- bytes that may list every call (13.2)
+unfoldable pub decodeAll : List ℕ → Decoded
+decodeAll b = decodeUpTo anyCallFirst (length b) b
 
 -- a list's records, one after another (13.2)
 unfoldable pub encode : List Call → List ℕ

@@ -1,5 +1,5 @@
 -- Why a sheet or a call is turned down, what a call answers, and the first row of a table that applies.
-use Rattle.plan.specs.Prelude.{ℕ, Bool, true, false, List, [], _∷_, Option, none, some, SheetFault, Cut, BadKind, Full, BadStep, BadAttributes, BadNames, Unenforceable, Extra, CallFault, Unknown, AlreadyClosed, NotClosed, Incoherent, TooLong, NoRoom, Answer, Is, Made, TurnedDown, FateAnswered}
+use Rattle.plan.specs.Prelude.{ℕ, Bool, true, false, List, [], _∷_, Option, none, some, SheetFault, Cut, BadKind, Full, BadStep, BadAttributes, BadNames, Unenforceable, Extra, BadWindow, CallFault, Unknown, AlreadyClosed, NotClosed, Incoherent, TooLong, NoRoom, Backward, Answer, Is, Made, TurnedDown, FateAnswered}
 
 -- the numbers that the table gives: for a sheet, and for a call (4.2)
 abbrev pub sheetFaultNumber : SheetFault → ℕ
@@ -12,6 +12,7 @@ sheetFaultNumber f = elim f [
   | BadNames ↦ 6
   | Unenforceable ↦ 7
   | Extra ↦ 8
+  | BadWindow ↦ 15
 ]
 
 abbrev pub callFaultNumber : CallFault → ℕ
@@ -22,6 +23,7 @@ callFaultNumber f = elim f [
   | Incoherent ↦ 12
   | TooLong ↦ 13
   | NoRoom ↦ 14
+  | Backward ↦ 16
 ]
 
 -- an answer's number: the fault's where the call is turned down, and 0 where it is taken (9.6)

@@ -1,5 +1,5 @@
 -- The names that the definitions use: the library's, passed on as they are, and the types that the code declares.
-pub use Prim.Native.Nat.{ℕ, zero, suc, _+_, _/_, _%_, _≤_, _<_}
+pub use Prim.Native.Nat.{ℕ, zero, suc, _+_, _*_, _/_, _%_, _≤_, _<_}
 pub use mathlib.Core.Bool.{Bool, true, false, not, _&&_, _||_, cond}
 pub use mathlib.Core.List.{List, [], _∷_, _++_}
 pub use mathlib.Core.Option.{Option, none, some}
@@ -12,17 +12,18 @@ pub use Rattle.plan.specs.declared.event.Event.{Event}
 pub use Rattle.plan.specs.declared.rule.Rule.{Rule}
 pub use Rattle.plan.specs.declared.rule.Rule.the-variants.{Order, Need, Conditional}
 pub use Rattle.plan.specs.declared.rule.RuleLine.{RuleLine}
+pub use Rattle.plan.specs.declared.window.Window.{Window}
 pub use Rattle.plan.specs.declared.plan.Plan.{Plan}
 pub use Rattle.plan.specs.declared.history.Entry.{Entry}
 pub use Rattle.plan.specs.declared.record.Record.{Record}
 pub use Rattle.plan.specs.declared.calls.Call.{Call}
-pub use Rattle.plan.specs.declared.calls.Call.the-variants.{Submit, Close, Finish}
+pub use Rattle.plan.specs.declared.calls.Call.the-variants.{Submit, Close, Finish, Advance}
 pub use Rattle.plan.specs.declared.calls.CallRead.{CallRead}
 pub use Rattle.plan.specs.declared.calls.CallRead.the-variants.{Listed, End, Bad}
 pub use Rattle.plan.specs.declared.answer.SheetFault.{SheetFault}
-pub use Rattle.plan.specs.declared.answer.SheetFault.the-variants.{Cut, BadKind, Full, BadStep, BadAttributes, BadNames, Unenforceable, Extra}
+pub use Rattle.plan.specs.declared.answer.SheetFault.the-variants.{Cut, BadKind, Full, BadStep, BadAttributes, BadNames, Unenforceable, Extra, BadWindow}
 pub use Rattle.plan.specs.declared.answer.CallFault.{CallFault}
-pub use Rattle.plan.specs.declared.answer.CallFault.the-variants.{Unknown, AlreadyClosed, NotClosed, Incoherent, TooLong, NoRoom}
+pub use Rattle.plan.specs.declared.answer.CallFault.the-variants.{Unknown, AlreadyClosed, NotClosed, Incoherent, TooLong, NoRoom, Backward}
 pub use Rattle.plan.specs.declared.answer.Answer.{Answer}
 pub use Rattle.plan.specs.declared.answer.Answer.the-variants.{Is, Made, TurnedDown}
 pub use Rattle.plan.specs.declared.answer.FateAnswered.{FateAnswered}

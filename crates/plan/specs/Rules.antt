@@ -1,7 +1,8 @@
 -- Rules: which a sheet takes, and what they forbid and owe, of a plan and the fates of its events.
-use Rattle.plan.specs.Prelude.{ℕ, Bool, false, not, _&&_, _||_, eqb, ltb, Rule, Order, Need, Conditional, Plan}
+use Rattle.plan.specs.Prelude.{ℕ, Bool, false, not, _&&_, _||_, eqb, ltb, leb, Rule, Order, Need, Conditional, Plan}
+use Rattle.plan.specs.Base.{allBelow}
 use Rattle.plan.specs.Fates.{Fates, isOpen, isHeld, isDone, isGone, isSettled}
-use Rattle.plan.specs.Plans.{eventCount, stepOf, attributesOf, ruleAt, holdsBit, forcible, rejectable, delayable}
+use Rattle.plan.specs.Plans.{eventCount, stepOf, attributesOf, fromOf, untilOf, hasWindow, ruleAt, holdsBit, forcible, rejectable, delayable}
 
 -- no step has this number (2.2, 4.2)
 abbrev pub badStep : ℕ → Bool
@@ -32,6 +33,20 @@ soundEvent p e = not (badStep (stepOf p e)) && not (badAttributes (attributesOf 
 
 unfoldable pub soundRule : Plan → ℕ → Bool
 soundRule p i = named (eventCount p) (ruleAt p i) && enforceable p (ruleAt p i)
+
+-- a window that a sheet may not give e: of an event not declared, not delayable or already with one, or one that does not
+-- end after it begins (2.10, 4.2)
+unfoldable pub badWindow : Plan → ℕ → ℕ → ℕ → Bool
+badWindow p e from until = leb (eventCount p) e || not (delayable p e) || hasWindow p e || leb until from
+
+-- what stands in e's place is no window, or one that a sheet could give it (10.4)
+unfoldable pub soundWindow : Plan → ℕ → Bool
+soundWindow p e =
+    (eqb (fromOf p e) 0 && eqb (untilOf p e) 0)
+    || (ltb e (eventCount p) && delayable p e && ltb (fromOf p e) (untilOf p e))
+
+unfoldable pub soundWindows : Plan → Bool
+soundWindows p = allBelow 16 (soundWindow p)
 
 -- t may still come, and can then neither be refused nor wait (6.9)
 unfoldable pub unstoppable : Plan → Fates → ℕ → Bool

@@ -3,7 +3,7 @@ use super::fate::Fate;
 ghost use mathlib.Core.Path.{_≡_};
 ghost use Rattle.plan.specs.Faults.{sheetFaultNumber, callFaultNumber, answerNumber, answerFate};
 
-// Why a sheet is turned down, in the order of the numbers 1 to 8.
+// Why a sheet is turned down, in the order of the numbers 1 to 8 and 15.
 pub enum SheetFault {
     Cut,
     BadKind,
@@ -13,9 +13,10 @@ pub enum SheetFault {
     BadNames,
     Unenforceable,
     Extra,
+    BadWindow,
 }
 
-// Why a call is turned down, in the order of the numbers 9 to 14; the last two are a batch's and a lent buffer's.
+// Why a call is turned down, in the order of the numbers 9 to 14 and 16; 13 and 14 are a batch's and a lent buffer's.
 pub enum CallFault {
     Unknown,
     AlreadyClosed,
@@ -23,6 +24,7 @@ pub enum CallFault {
     Incoherent,
     TooLong,
     NoRoom,
+    Backward,
 }
 
 // What a call answers: a hand-in the event's fate, the others that they were made.
@@ -57,6 +59,7 @@ pub fn sheet_fault_number(fault: SheetFault) -> usize
         SheetFault::BadNames => 6,
         SheetFault::Unenforceable => 7,
         SheetFault::Extra => 8,
+        SheetFault::BadWindow => 15,
     }
 }
 
@@ -70,6 +73,7 @@ pub fn call_fault_number(fault: CallFault) -> usize
         CallFault::Incoherent => 12,
         CallFault::TooLong => 13,
         CallFault::NoRoom => 14,
+        CallFault::Backward => 16,
     }
 }
 

@@ -9,3 +9,4 @@ pub mod history;
 pub mod plan;
 pub mod record;
 pub mod rule;
+pub mod window;

@@ -2,14 +2,16 @@
 use super::event::Event;
 use super::rule::Rule;
 use super::rule::RuleLine;
+use super::window::Window;
 ghost use mathlib.Core.Path.{_≡_};
 ghost use Rattle.plan.specs.Prelude.{Plan};
 ghost use Rattle.plan.specs.Plans.{emptyPlan, eventCount, hasEvent};
 
-// Events with their step and attributes, and rules. No call changes it.
+// Events with their step and attributes, rules, and a window for each event. No call changes it.
 pub struct Plan {
-    pub events: [Event; 16],
     pub event_count: u8,
+    pub windows: [Window; 16],
+    pub events: [Event; 16],
     pub rules: [RuleLine; 16],
     pub rule_count: u8,
 }
@@ -25,11 +27,13 @@ pub fn empty_plan() -> Plan
     let rules = [RuleLine {
         rule: Rule::Order(0, 0),
     }; 16];
+    let windows = [Window { from: 0, until: 0 }; 16];
     Plan {
         events,
         event_count: 0,
         rules,
         rule_count: 0,
+        windows,
     }
 }
 

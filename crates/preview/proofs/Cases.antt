@@ -6,14 +6,14 @@ use mathlib.Core.Path.{_≡_, refl}
 use lib.ListN.{set}
 use Rattle.preview.specs.Types.{Submit, Close, State}
 use Rattle.plan.specs.Base.{anyBelow, allBelow, firstOf, tabulate, lowest}
-use Rattle.plan.specs.Plans.{hasEvent}
-use Rattle.plan.specs.Rules.{named, enforceable, soundEvent, soundRule, bars, makesWait, forbids, owes, ready}
+use Rattle.plan.specs.Plans.{hasEvent, allowedIn, overIn, allowedAt, overAt}
+use Rattle.plan.specs.Rules.{named, enforceable, soundEvent, soundRule, bars, makesWait, forbids, owes, ready, badWindow, soundWindow, soundWindows}
 use Rattle.plan.specs.Histories.{listedAs, fatesIn, anyDone, doneIn, doneInTurn, holds, declaredOnly, sameFates}
 use Rattle.plan.specs.Faults.{firstFault}
-use Rattle.plan.specs.Records.{ruleOf, addEvent, addRule, addEvents, declare, recordFault}
+use Rattle.plan.specs.Records.{ruleOf, addEvent, addRule, addEvents, declare, recordFault, addWindow}
 use Rattle.plan.specs.Sheets.{sheetPlan, ending, readFrom, readPlan}
 use Rattle.scheduler.specs.State.{hold, settleAs, shut, breakRule}
-use Rattle.scheduler.specs.Rules.{barred, forbidden, owing, strains}
+use Rattle.scheduler.specs.Rules.{barred, forbidden, owing, strains, ruledOut}
 use Rattle.scheduler.specs.Orders.{mayDo, doAll, orderOf, chosen}
 use Rattle.scheduler.specs.Calls.{toRefuse, toDo, settleOnce, settleUpTo, settle, recordBroken, doAlone, decide, submit, lapse, closeStep, refuseHeld, finish}
 use Rattle.scheduler.specs.Coherent.{coherentEvent, coherentRule, coherent}
@@ -77,7 +77,7 @@ cases =
 
 -- the joint proof
 pub previewed : map (λ (c : Case). outcome (c .0) (c .1)) cases ≡ map (λ (c : Case). (c .2, c .3)) cases
-unfolding outcome tabulate anyBelow allBelow firstOf lowest hold settleAs shut breakRule named enforceable soundEvent
+unfolding outcome allowedAt allowedIn overAt overIn ruledOut soundWindow soundWindows badWindow addWindow tabulate anyBelow allBelow firstOf lowest hold settleAs shut breakRule named enforceable soundEvent
     soundRule bars makesWait forbids owes barred forbidden owing fatesIn anyDone doneIn doneInTurn holds ready mayDo
     doAll orderOf chosen toRefuse toDo settleOnce settleUpTo settle strains recordBroken doAlone decide submit lapse
     closeStep refuseHeld finish firstFault declaredOnly sameFates listedAs coherentEvent coherentRule coherent hasEvent

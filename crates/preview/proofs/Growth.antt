@@ -8,7 +8,7 @@ use mathlib.Core.Option.{Option, none, some}
 use mathlib.Core.Path.{_≡_, refl, sym, _∙_, ap, subst}
 use lib.ListN.{length, drop, length-take, length-append, drop-of-length-le}
 use lib.Seq.{length-take-le, drop-at}
-use Rattle.preview.specs.Types.{Fate, Open, Held, Done, Refused, Lapsed, Forced, Entry, Call, Submit, Close, Finish, CallFault, State, Reply}
+use Rattle.preview.specs.Types.{Fate, Open, Held, Done, Refused, Lapsed, Forced, Entry, Call, Submit, Close, Finish, Advance, CallFault, State, Reply}
 use Rattle.plan.specs.Base.{oneIf}
 use Rattle.plan.specs.Fates.{isOpen, doneAs, sameFate}
 use Rattle.plan.specs.Plans.{ruleCount}
@@ -17,7 +17,7 @@ use Rattle.scheduler.specs.Orders.{fateAtTurn, doOne, doAll}
 use Rattle.scheduler.specs.Calls.{recordBroken, doAlone}
 use Rattle.scheduler.specs.Coherent.{coherent}
 use Rattle.scheduler.specs.Answers.{callFault, accept, call}
-use Rattle.scheduler.specs.Grounds.{Trail, end, held, ordered, alone, refused, shuts, lapsed}
+use Rattle.scheduler.specs.Grounds.{Trail, end, held, ordered, alone, refused, shuts, lapsed, moves}
 use Rattle.plan.proofs.Tests.{clash}
 use Rattle.scheduler.proofs.Laws.{lines-hold, sized-hold, lines-settle, sized-settle, sized-one}
 use Rattle.scheduler.proofs.Branches.{submit-same, call-fault, call-accept}
@@ -114,11 +114,12 @@ grown-alone s e z =
     let n = ruleCount (s .plan) in
     grown-then s t (recordBroken n s e t) (grown-settle Done one-done s e z) (grown-same t (recordBroken n s e t) (recorded-lines s e t n))
 
--- a hand-in closes no step
-abbrev closes : Call → Bool
-closes (Submit e) = false
-closes (Close k) = true
-closes Finish = false
+-- a hand-in closes no step and moves no minute
+abbrev other : Call → Bool
+other (Submit e) = false
+other (Close k) = true
+other Finish = false
+other (Advance m) = true
 
 -- what a hand-in writes, write by write
 trail-grown : {d : ℕ} {s t : State} → Trail (Submit d) s t → Sized s → Grown s t
@@ -131,8 +132,9 @@ trail-grown (alone {s} {t} e p u d j n r) z =
     grown-then s (doAlone s e) t (grown-alone s e z) (trail-grown r (sized-alone s e z))
 trail-grown (refused {s} {t} e g r) z =
     grown-then s (settleAs Refused s e) t (grown-settle Refused one-refused s e z) (trail-grown r (sized-settle Refused s e z))
-trail-grown (shuts k p r) z = absurd (clash refl (ap closes (sym p)))
-trail-grown (lapsed e p h r) z = absurd (clash refl (ap closes (sym p)))
+trail-grown (shuts k p r) z = absurd (clash refl (ap other (sym p)))
+trail-grown (lapsed e p h r) z = absurd (clash refl (ap other (sym p)))
+trail-grown (moves m p h r) z = absurd (clash refl (ap other (sym p)))
 
 -- a history has nothing beyond its lines
 nothing-beyond : (s : State) → drop (lineCount s) (lines s) ≡ []

@@ -24,7 +24,7 @@ afterE = breakRule (settleAs Done (settleAs Lapsed (shut (firstState planD) 1) 1
 
 -- a plan whose count of events is past its limit
 abbrev tooMany : Plan
-tooMany = record { events = emptyPlan .events; «event_count» = 17; rules = emptyPlan .rules; «rule_count» = 0 }
+tooMany = record { events = emptyPlan .events; «event_count» = 17; rules = emptyPlan .rules; «rule_count» = 0; windows = emptyPlan .windows }
 
 -- declared numbers, and undeclared ones; and an event past the limit of a count that is past it
 pub readings :

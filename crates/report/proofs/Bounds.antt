@@ -14,7 +14,7 @@ use denote.Shadow.{shadow}
 use denote.Struct.Declared.{row, shape}
 use denote.Struct.Struct.{Struct}
 use Rattle.plan.proofs.Tests.{count-le}
-use Rattle.report.specs.Types.{SheetFault, Cut, BadKind, Full, BadStep, BadAttributes, BadNames, Unenforceable, Extra, Outcome, Verdict, Admitted, Faulty, Fate, Open, Held, Done, Refused, Lapsed, Forced, Entry}
+use Rattle.report.specs.Types.{SheetFault, Cut, BadKind, Full, BadStep, BadAttributes, BadNames, Unenforceable, Extra, BadWindow, Outcome, Verdict, Admitted, Faulty, Fate, Open, Held, Done, Refused, Lapsed, Forced, Entry}
 use Rattle.plan.specs.Plans.{eventCount, ruleCount}
 use Rattle.scheduler.specs.State.{lineCount, lines, fateOf, brokenAt}
 use Rattle.plan.specs.Histories.{blankEntry}
@@ -61,8 +61,8 @@ offset-small (Faulty k n) g f at e =
 -- what owning an outcome tells: `c .good .0` for the first parameter, `c .CALL .ok` for a result
 pub small : (o : Outcome) {vs : List Val} → Is (row the-outcome.the-type) o vs → Small o
 small o g = let s = g .1 .1 .1 .0 in record {
-  events = s .1 .1 .0 .1 .1 .1 .0 .1;
-  rules = s .1 .1 .0 .1 .1 .1 .1 .1 .0 .1;
+  events = s .1 .1 .0 .1 .1 .0 .1;
+  rules = s .1 .1 .0 .1 .1 .1 .1 .1 .1 .0 .1;
   entries = entries-small (o .state .history) (s .1 .1 .1 .1 .1 .1 .0 .0) (s .1 .1 .1 .1 .1 .1 .0 .1 .1);
   places = sym (length-map (o .state .history) _) ∙ s .1 .1 .1 .1 .1 .1 .0 .1 .0 .1;
   refused = g .1 .1 .1 .1 .0 .1;
@@ -99,6 +99,7 @@ fault-few BadAttributes = omega arith
 fault-few BadNames = omega arith
 fault-few Unenforceable = omega arith
 fault-few Extra = omega arith
+fault-few BadWindow = omega arith
 
 fate-few : (x : Fate) → length (fateEnd x) ≤ 9
 fate-few Open = omega arith

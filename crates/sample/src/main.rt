@@ -279,9 +279,15 @@ fn show_effect(name: &[u8], state: State, made: Call) {
     }
     show_number(
         b" taken, lines ",
-        readers::line_count(state.after_call(made)) as u64,
+        readers::line_count(taken(state, made)) as u64,
     );
     io::write_all(STDOUT_FILENO, b"\n");
+}
+
+// The state after a call that is taken.
+fn taken(state: State, made: Call) -> State {
+    let course = state.after_call(made);
+    state.with_course(course)
 }
 
 // The calls of a list on a sheet's first state, and once its steps 0 and 1 are closed.
@@ -292,8 +298,8 @@ fn show_effects(sheet: &[u8]) {
     show_effect(b"in a list, hand in 9:", first, Call::Submit(9));
     show_effect(b"in a list, close step 1:", first, Call::Close(1));
     show_effect(b"in a list, wind up:", first, Call::Finish);
-    let once = first.after_call(Call::Close(0));
-    let closed = once.after_call(Call::Close(1));
+    let once = taken(first, Call::Close(0));
+    let closed = taken(once, Call::Close(1));
     show_effect(b"both closed, hand in 0:", closed, Call::Submit(0));
     show_effect(b"both closed, close step 0:", closed, Call::Close(0));
     show_effect(b"both closed, wind up:", closed, Call::Finish);

@@ -1,20 +1,20 @@
 -- What the code of the calls says at each of its ends.
 use Prim.Native.Nat.{ℕ, _-_, _≤_, _<_}
-use borrow.Author.Tests.{not-true, not-false, le-leb, lt-leb, leb-true, leb-false}
+use borrow.Author.Tests.{not-true, not-false, lt-ltb, le-ltb, ltb-true, ltb-false, le-leb, lt-leb, leb-true, leb-false}
 use mathlib.Core.Bool.{Bool, true, false, not, _||_}
 use mathlib.Core.List.{[], _∷_}
 use mathlib.Core.Option.{Option, none, some}
 use mathlib.Core.Path.{_≡_, refl, sym, _∙_, ap}
-use lib.Dec.{leb}
+use lib.Dec.{ltb, leb}
 use lib.ListN.{take, getD}
 use Rattle.scheduler.specs.declared.order.Found.{Found}
-use Rattle.scheduler.specs.Prelude.{Fate, Refused, Standing, State, Unknown, AlreadyClosed, NotClosed, Incoherent, CallFault, Call, Submit, Close, Finish, Is, Made, Reply}
+use Rattle.scheduler.specs.Prelude.{Fate, Refused, Standing, State, Unknown, AlreadyClosed, NotClosed, Incoherent, Backward, CallFault, Call, Submit, Close, Finish, Advance, Is, Made, Reply}
 use Rattle.plan.specs.Base.{anyBelow}
-use Rattle.plan.specs.Plans.{eventCount, rejectable, delayable, hasEvent}
-use Rattle.scheduler.specs.State.{fateOf, closedAt, hold, settleAs, shut}
+use Rattle.plan.specs.Plans.{eventCount, rejectable, hasEvent}
+use Rattle.scheduler.specs.State.{fateOf, closedAt, settleAs}
 use Rattle.plan.specs.Fates.{isOpen, isHeld, blankStanding}
 use Rattle.scheduler.specs.Orders.{chosen, foundOrder}
-use Rattle.scheduler.specs.Calls.{settle, doAlone, decide, submit, lapse, closeStep, finish}
+use Rattle.scheduler.specs.Calls.{doAlone, decide, submit, closeStep, finish, advanceTo}
 use Rattle.plan.specs.Faults.{firstFault}
 use Rattle.scheduler.specs.Coherent.{coherent}
 use Rattle.scheduler.specs.Answers.{unclosedAt, callRows, turnsDown, callFault, idle, accept, turnedDownBy, takeCall, call}
@@ -24,7 +24,7 @@ use Rattle.plan.proofs.Tests.{clash, any-false}
 use Rattle.scheduler.proofs.Laws.{fate-past}
 use Rattle.plan.proofs.Tables.{row-hit, row-miss, rows-none}
 use Rattle.scheduler.proofs.SettleLoops.{order-found, order-missing, finish-unheld}
-use Rattle.scheduler.proofs.Branches.{decide-order, decide-refuse, decide-alone, submit-same, submit-delayed, submit-decided, turns-some, turns-none, take-fault, take-accept, call-fault, call-accept}
+use Rattle.scheduler.proofs.Branches.{decide-order, decide-refuse, decide-alone, submit-same, turns-some, turns-none, take-fault, take-accept, call-fault, call-accept}
 
 -- what a test says, negated in the code
 module _ (is b : Bool) (same : is ≡ b) where
@@ -62,24 +62,12 @@ module _ (s : State) (e : ℕ) where
   pub fate-blank : 16 ≤ e → true ≡ isOpen (fateOf s e)
   fate-blank ge = sym (ap isOpen (fate-past s e ge))
 
--- handing in an open event
-module _ (s : State) (e : ℕ) (fresh : isOpen (fateOf s e) ≡ true) (held t : State) (late : Bool) (holds : held ≡ hold s e) (delay : late ≡ delayable (s .plan) e) where
-  -- one that is delayable
-  pub hand-delayed : late ≡ true → t ≡ settle held → t ≡ submit s e
-  hand-delayed d done = done ∙ ap settle holds ∙ sym (submit-delayed s e fresh (sym delay ∙ d))
-
-  -- one that is not
-  pub hand-decided : (u : State) → late ≡ false → u ≡ decide held e → t ≡ settle u → t ≡ submit s e
-  hand-decided u d first done =
-      done
-      ∙ ap settle (first ∙ ap (λ (w : State). decide w e) holds)
-      ∙ sym (submit-decided s e fresh (sym delay ∙ d))
-
 -- a call that is idle leaves the state as it is
 pub idle-same : (s : State) (c : Call) → idle s c ≡ true → accept s c .state ≡ s
 unfolding idle accept
 idle-same s (Submit e) h = submit-same s e (not-true (isOpen (fateOf s e)) h)
 idle-same s (Close k) h = absurd (clash h refl)
+idle-same s (Advance m) h = absurd (clash h refl)
 idle-same s Finish h = finish-unheld s (any-false _ _ (not-true (anyBelow (eventCount (s .plan)) (λ e. isHeld (fateOf s e))) h))
 
 -- what code answers for each call
@@ -92,17 +80,16 @@ module _ (s : State) (made : Call) where
   unfolding idle
   close-idle k is = rw is
 
+  pub move-idle : (m : ℕ) → made ≡ Advance m → false ≡ idle s made
+  unfolding idle
+  move-idle m is = rw is
+
   pub finish-idle : (h : Bool)
       → made ≡ Finish
       → h ≡ anyBelow (eventCount (s .plan)) (λ e. isHeld (fateOf s e))
       → not h ≡ idle s made
   unfolding idle
   finish-idle h is same = rw (is, same)
-
--- closing: shutting the step leaves the plan
-pub close-shut : (s : State) (k : ℕ) → settle (lapse (eventCount ((shut s k) .plan)) 0 (shut s k) k) ≡ closeStep s k
-unfolding closeStep shut
-close-shut s k = refl
 
 -- the calls: the rows of the table that apply, or none, and what the call then gives
 module _ (s : State) (c : Call) where
@@ -205,6 +192,26 @@ module _ (s : State) where
         → _≡_ {A = Reply} (record { answer = Made; state = t }) (accept s (Close k))
     unfolding accept
     close-reply t same = ap {B = Reply} (λ (w : State). record { answer = Made; state = w }) same
+
+  module _ (m : ℕ) where
+    pub move-early : m < s .minute → firstFault (callRows s (Advance m)) ≡ some Backward
+    move-early u = row-hit (ltb m (s .minute)) Backward [] (lt-ltb _ _ u)
+
+    pub move-taken : s .minute ≤ m → firstFault (callRows s (Advance m)) ≡ none
+    move-taken u = row-miss (ltb m (s .minute)) Backward [] (le-ltb _ _ u) ∙ rows-none
+
+    pub move-turns : ltb m (s .minute) ≡ turnsDown s (Advance m)
+    move-turns = go (ltb m (s .minute)) refl
+      where
+        go : (b : Bool) → ltb m (s .minute) ≡ b → ltb m (s .minute) ≡ turnsDown s (Advance m)
+        go true t = t ∙ sym (turns-some s (Advance m) Backward (move-early (ltb-true _ _ t)))
+        go false t = t ∙ sym (turns-none s (Advance m) (move-taken (ltb-false _ _ t)))
+
+    pub move-reply : (t : State)
+        → t ≡ advanceTo s m
+        → _≡_ {A = Reply} (record { answer = Made; state = t }) (accept s (Advance m))
+    unfolding accept
+    move-reply t same = ap {B = Reply} (λ (w : State). record { answer = Made; state = w }) same
 
   pub finish-unclosed : anyBelow 8 (unclosedAt s) ≡ true → firstFault (callRows s Finish) ≡ some NotClosed
   finish-unclosed u = row-hit (anyBelow 8 (unclosedAt s)) NotClosed [] u

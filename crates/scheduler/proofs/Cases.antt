@@ -6,20 +6,20 @@ use mathlib.Core.List.{List, [], _∷_, _++_, map}
 use mathlib.Core.Path.{_≡_, refl}
 use Rattle.plan.proofs.FormatCases.{times, sixteenEvents}
 use lib.ListN.{take, replicate}
-use Rattle.scheduler.specs.Prelude.{Fate, Held, Done, Refused, Lapsed, Forced, Need, Plan, State, Call, Submit, Close, Finish}
-use Rattle.scheduler.specs.Prelude.{Answer, Is, Made, TurnedDown, Unknown, AlreadyClosed, NotClosed, Incoherent, Admitted, Faulty}
+use Rattle.scheduler.specs.Prelude.{Fate, Held, Done, Refused, Lapsed, Forced, Need, Plan, State, Call, Submit, Close, Finish, Advance}
+use Rattle.scheduler.specs.Prelude.{Answer, Is, Made, TurnedDown, Unknown, AlreadyClosed, NotClosed, Incoherent, Backward, Admitted, Faulty}
 use Rattle.plan.specs.Base.{anyBelow, allBelow, countBelow, firstOf, tabulate, lowest}
-use Rattle.plan.specs.Plans.{ruleCount, emptyPlan, hasEvent}
-use Rattle.scheduler.specs.State.{firstState, emptyState, lines, hold, settleAs, shut, breakRule}
-use Rattle.plan.specs.Rules.{named, enforceable, soundEvent, soundRule, unstoppable, reckoned, triggered, bars, makesWait, forbids, owes, ready}
-use Rattle.scheduler.specs.Rules.{barred, forbidden, owing, strains}
+use Rattle.plan.specs.Plans.{ruleCount, emptyPlan, hasEvent, allowedAt, overAt, allowedIn, overIn}
+use Rattle.scheduler.specs.State.{firstState, emptyState, lines, hold, settleAs, shut, breakRule, setMinute}
+use Rattle.plan.specs.Rules.{named, enforceable, soundEvent, soundRule, unstoppable, reckoned, triggered, bars, makesWait, forbids, owes, badWindow, soundWindow, soundWindows, ready}
+use Rattle.scheduler.specs.Rules.{ruledOut, barred, forbidden, owing, strains}
 use Rattle.plan.specs.Histories.{listedAs, fatesIn, anyDone, doneIn, doneInTurn, holds, declaredOnly, sameFates}
 use Rattle.scheduler.specs.Orders.{mayDo, doAll, orderOf, chosen}
-use Rattle.scheduler.specs.Calls.{toRefuse, toDo, settleOnce, settleUpTo, settle, recordBroken, doAlone, decide, submit, lapse, closeStep, refuseHeld, finish}
+use Rattle.scheduler.specs.Calls.{toRefuse, toDo, settleOnce, settleUpTo, settle, recordBroken, doAlone, decide, submit, lapse, closeStep, advanceTo, refuseHeld, finish}
 use Rattle.plan.specs.Faults.{sheetFaultNumber, firstFault}
 use Rattle.scheduler.specs.Coherent.{coherentEvent, coherentRule, coherent}
 use Rattle.scheduler.specs.Answers.{callFault, accept, call}
-use Rattle.plan.specs.Records.{ruleOf, addEvent, addRule, addEvents, declare, recordFault}
+use Rattle.plan.specs.Records.{ruleOf, addEvent, addRule, addWindow, addEvents, declare, recordFault}
 use Rattle.plan.specs.Sheets.{sheetPlan, ending, readFrom, readPlan}
 use Rattle.scheduler.specs.Sheet.{readSheet}
 use Rattle.plan.specs.Calls.{decodeUpTo, firstCall, firstCall, decode}
@@ -75,6 +75,21 @@ sheetW = 1 ∷ 0 ∷ 6 ∷ 1 ∷ 1 ∷ 0 ∷ 1 ∷ 2 ∷ 6 ∷ 4 ∷ 0 ∷ 1 ∷
 
 abbrev pub sheetV : List ℕ
 sheetV = 1 ∷ 0 ∷ 6 ∷ 1 ∷ 1 ∷ 0 ∷ 1 ∷ 2 ∷ 6 ∷ 4 ∷ 1 ∷ 0 ∷ 2 ∷ 5 ∷ []
+
+-- S-7: a window of event e, from and until below 256
+abbrev pub window : ℕ → ℕ → ℕ → List ℕ
+window e from until = 7 ∷ e ∷ from ∷ 0 ∷ 0 ∷ 0 ∷ until ∷ 0 ∷ 0 ∷ 0 ∷ []
+
+-- one event in a window from 1 until 3; and 0 that needs 1, which can be forced and has that window
+abbrev pub sheetT : List ℕ
+sheetT = (1 ∷ 0 ∷ 6 ∷ []) ++ window 0 1 3 ++ (5 ∷ [])
+
+abbrev pub sheetU : List ℕ
+sheetU = (1 ∷ 0 ∷ 6 ∷ 1 ∷ 1 ∷ 7 ∷ 3 ∷ 0 ∷ 1 ∷ []) ++ window 1 1 3 ++ (5 ∷ [])
+
+-- 0 and 1, which nothing can stop, call for 2, which can be forced and has a window from 1 until 3
+abbrev pub sheetX : List ℕ
+sheetX = (1 ∷ 0 ∷ 6 ∷ 1 ∷ 1 ∷ 0 ∷ 1 ∷ 2 ∷ 7 ∷ 4 ∷ 0 ∷ 1 ∷ 2 ∷ []) ++ window 2 1 3 ++ (5 ∷ [])
 
 -- orders 0, 1 up to n - 1, n
 abbrev pub links : ℕ → List ℕ
@@ -351,6 +366,28 @@ cases =
       Close 8 ∷ Close 2 ∷ Close 0 ∷ Close 0 ∷ Finish ∷ Submit 2 ∷ Submit 0 ∷ [],
       ran (TurnedDown Unknown ∷ TurnedDown Unknown ∷ Made ∷ TurnedDown AlreadyClosed ∷ TurnedDown NotClosed ∷ TurnedDown Unknown ∷ Is Lapsed ∷ []) ((0, Lapsed) ∷ []) (false ∷ false ∷ []),
     )
+    -- S-7 and S-6: whether c can be forced goes by its attributes alone. So 0 need not wait for it; and 1 breaks the rule
+    ∷ (sheetX, Submit 0 ∷ Submit 1 ∷ [], ran (Is Done ∷ Is Done ∷ []) ((0, Done) ∷ (1, Done) ∷ []) (true ∷ []))
+    -- S-7. Before its window an event is held; in its first and in its last minute it is done
+    ∷ (sheetT, Submit 0 ∷ Submit 0 ∷ [], ran (Is Held ∷ Is Held ∷ []) [] [])
+    ∷ (sheetT, Submit 0 ∷ Advance 1 ∷ [], ran (Is Held ∷ Made ∷ []) ((0, Done) ∷ []) [])
+    ∷ (sheetT, Submit 0 ∷ Advance 0 ∷ Advance 2 ∷ [], ran (Is Held ∷ Made ∷ Made ∷ []) ((0, Done) ∷ []) [])
+    ∷ (sheetT, Advance 2 ∷ Submit 0 ∷ [], ran (Made ∷ Is Done ∷ []) ((0, Done) ∷ []) [])
+    -- at its end a held one is refused, and minutes jumped over do nothing; an open one stays open, and is refused when it
+    -- is handed in, or lapses
+    ∷ (sheetT, Submit 0 ∷ Advance 3 ∷ [], ran (Is Held ∷ Made ∷ []) ((0, Refused) ∷ []) [])
+    ∷ (sheetT, Submit 0 ∷ Advance 9 ∷ [], ran (Is Held ∷ Made ∷ []) ((0, Refused) ∷ []) [])
+    ∷ (sheetT, Advance 3 ∷ Submit 0 ∷ [], ran (Made ∷ Is Refused ∷ []) ((0, Refused) ∷ []) [])
+    ∷ (sheetT, Advance 4 ∷ Close 0 ∷ [], ran (Made ∷ Made ∷ []) ((0, Lapsed) ∷ []) [])
+    -- a closing settles no event before its window, and winding up refuses it
+    ∷ (sheetT, Submit 0 ∷ Close 0 ∷ Finish ∷ [], ran (Is Held ∷ Made ∷ Made ∷ []) ((0, Refused) ∷ []) [])
+    -- 16: a minute below the current one; the same one is taken
+    ∷ (sheetT, Advance 2 ∷ Advance 1 ∷ Advance 2 ∷ Submit 0 ∷ [], ran (Made ∷ TurnedDown Backward ∷ Made ∷ Is Done ∷ []) ((0, Done) ∷ []) [])
+    -- an order waits while the window of its second event is not open
+    ∷ (sheetU, Submit 1 ∷ Submit 0 ∷ Advance 0 ∷ Advance 1 ∷ [], ran (Is Held ∷ Is Held ∷ Made ∷ Made ∷ []) ((0, Done) ∷ (1, Done) ∷ []) (false ∷ []))
+    -- nothing is forced outside its window, and what needs it waits; the rule sees it only when it is settled
+    ∷ (sheetU, Submit 0 ∷ Advance 1 ∷ [], ran (Is Held ∷ Made ∷ []) ((0, Done) ∷ (1, Forced) ∷ []) (false ∷ []))
+    ∷ (sheetU, Submit 0 ∷ Advance 3 ∷ Submit 0 ∷ Submit 1 ∷ [], ran (Is Held ∷ Made ∷ Is Held ∷ Is Refused ∷ []) ((1, Refused) ∷ (0, Refused) ∷ []) (false ∷ []))
     -- a plan without events winds up, and again
     ∷ (5 ∷ [], Submit 0 ∷ Close 0 ∷ Finish ∷ Finish ∷ [], ran (TurnedDown Unknown ∷ TurnedDown Unknown ∷ Made ∷ Made ∷ []) [] [])
     ∷ []
@@ -358,7 +395,7 @@ cases =
 -- a plan with these counts, otherwise empty, and s with n lines
 abbrev pub counting : ℕ → ℕ → Plan
 counting events rules =
-    record { events = emptyPlan .events; «event_count» = events; rules = emptyPlan .rules; «rule_count» = rules }
+    record { events = emptyPlan .events; «event_count» = events; rules = emptyPlan .rules; «rule_count» = rules; windows = emptyPlan .windows }
 
 abbrev pub withLines : ℕ → State → State
 withLines n s = record {
@@ -368,6 +405,7 @@ withLines n s = record {
   closed = s .closed;
   history = s .history;
   «history_len» = n;
+  minute = s .minute;
 }
 
 abbrev pub firstOn : List ℕ → State
@@ -410,6 +448,16 @@ brought =
     ∷ (settleAs Forced (firstOn sheetG) 1, Submit 1 ∷ Submit 0 ∷ [], Is Forced ∷ Is Refused ∷ [])
     ∷ (settleAs Forced (firstOn sheetD) 0, Submit 1 ∷ [], TurnedDown Incoherent ∷ [])
     ∷ (settleAs Forced (settleAs Forced (firstOn sheetD) 0) 1, Submit 1 ∷ [], Is Forced ∷ [])
+    -- 12, S-7: a window on an event that is not declared or not delayable, one that ends before it begins, a from without
+    -- an until; number 12 goes before number 16. A held event past its window is no fault: the next settling refuses it
+    ∷ (firstState (addWindow (addEvent emptyPlan 0 6) 0 1 2), Submit 0 ∷ [], Is Held ∷ [])
+    ∷ (firstState (addWindow (addEvent emptyPlan 0 6) 1 1 2), Submit 0 ∷ [], TurnedDown Incoherent ∷ [])
+    ∷ (firstState (addWindow (addEvent emptyPlan 0 6) 15 1 2), Submit 0 ∷ [], TurnedDown Incoherent ∷ [])
+    ∷ (firstState (addWindow (addEvent emptyPlan 0 3) 0 1 2), Submit 0 ∷ [], TurnedDown Incoherent ∷ [])
+    ∷ (firstState (addWindow (addEvent emptyPlan 0 6) 0 2 2), Submit 0 ∷ [], TurnedDown Incoherent ∷ [])
+    ∷ (firstState (addWindow (addEvent emptyPlan 0 6) 0 2 0), Submit 0 ∷ [], TurnedDown Incoherent ∷ [])
+    ∷ (setMinute (firstState (addWindow (addEvent emptyPlan 0 6) 0 2 2)) 5, Advance 4 ∷ [], TurnedDown Incoherent ∷ [])
+    ∷ (setMinute (hold (firstOn sheetT) 0) 7, Advance 6 ∷ Submit 0 ∷ Advance 7 ∷ Submit 0 ∷ [], TurnedDown Backward ∷ Is Held ∷ Made ∷ Is Refused ∷ [])
     -- 12: held without being delayable; open in a closed step
     ∷ (hold (firstOn sheetD) 0, Submit 1 ∷ [], TurnedDown Incoherent ∷ [])
     ∷ (shut (firstOn sheetD) 0, Submit 1 ∷ [], TurnedDown Incoherent ∷ [])
@@ -511,10 +559,10 @@ pub marked :
     × (map (λ (c : Brought). answersOf (c .0) (c .1)) brought ≡ map (λ (c : Brought). c .2) brought)
     × (map (λ (c : Report). report (runOf (c .0) (c .1))) reports ≡ map (λ (c : Report). c .2) reports)
 unfolding given answersOf tabulate anyBelow allBelow firstOf lowest hold settleAs shut breakRule named enforceable
-    soundEvent soundRule unstoppable reckoned triggered bars makesWait forbids owes barred forbidden owing fatesIn anyDone doneIn doneInTurn holds
+    soundEvent soundRule unstoppable reckoned triggered bars makesWait forbids owes badWindow soundWindow soundWindows allowedAt allowedIn overAt overIn ruledOut barred forbidden owing fatesIn anyDone doneIn doneInTurn holds
     ready mayDo doAll orderOf chosen toRefuse toDo settleOnce settleUpTo settle strains recordBroken doAlone decide
-    submit lapse closeStep refuseHeld finish firstFault declaredOnly sameFates listedAs coherentEvent coherentRule
-    coherent hasEvent callFault accept call ruleOf addEvent addRule addEvents declare recordFault ending readFrom
+    submit lapse closeStep setMinute advanceTo refuseHeld finish firstFault declaredOnly sameFates listedAs coherentEvent coherentRule
+    coherent hasEvent callFault accept call ruleOf addEvent addRule addWindow addEvents declare recordFault ending readFrom
     readPlan sheetPlan readSheet after countBelow firstCall decodeUpTo decode turnedDown runOn runOf digits decimal
     historyLines report
 marked = (refl, refl, refl)

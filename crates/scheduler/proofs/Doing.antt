@@ -9,21 +9,21 @@ use mathlib.Core.List.{List, [], _∷_, _++_, append-nil, append-assoc}
 use mathlib.Core.Logic.{_≢_, inl, inr}
 use mathlib.Core.Option.{Option, none, some}
 use mathlib.Core.Path.{_≡_, refl, sym, _∙_, ap, subst}
-use Rattle.scheduler.specs.Prelude.{Fate, Held, Done, Refused, Lapsed, State, Call, Submit, Close, Finish, Reply}
+use Rattle.scheduler.specs.Prelude.{Fate, Held, Done, Refused, Lapsed, State, Call, Submit, Close, Finish, Advance, Reply}
 use Rattle.plan.specs.Plans.{eventCount, ruleCount, rejectable, delayable}
 use Rattle.plan.specs.Fates.{isOpen, isSettled}
-use Rattle.scheduler.specs.State.{fateOf, lineCount, lines, hold, settleAs, shut, Sized}
+use Rattle.scheduler.specs.State.{fateOf, lineCount, lines, hold, settleAs, shut, setMinute, Sized}
 use Rattle.scheduler.specs.Rules.{barred, strains}
 use Rattle.scheduler.specs.Orders.{fateAtTurn, doOne, doAll, Runs, chosen}
-use Rattle.scheduler.specs.Calls.{AtRest, settleOnce, settle, breakIf, recordBroken, doAlone, decide, closeStep, refuseHeld, finish}
+use Rattle.scheduler.specs.Calls.{AtRest, settleOnce, settle, breakIf, recordBroken, doAlone, decide, closeStep, refuseHeld, finish, advanceTo}
 use Rattle.scheduler.specs.Answers.{accept}
 use Rattle.scheduler.specs.Lists.{scheduler}
 use Rattle.scheduler.specs.Demand.{Extends}
-use Rattle.scheduler.specs.Grounds.{NoViable, Ground, by-bar, by-submission, by-finish, Trail, end, held, ordered, alone, refused, shuts, lapsed}
+use Rattle.scheduler.specs.Grounds.{NoViable, Ground, by-bar, by-submission, by-finish, Trail, end, held, ordered, alone, refused, shuts, lapsed, moves}
 use Rattle.scheduler.specs.Doing.{Acts, Doing}
 use Rattle.plan.proofs.Tests.{clash, either}
 use Rattle.scheduler.proofs.Laws.{plan-settle, fate-settle-other, lines-settle, sized-settle, sized-one, fate-one-other}
-use Rattle.scheduler.proofs.Laws.{plan-break, fate-hold-other, lines-hold, sized-hold, fate-shut, lines-shut, sized-shut, fate-break, lines-break}
+use Rattle.scheduler.proofs.Laws.{plan-break, fate-hold-other, lines-hold, sized-hold, fate-shut, lines-shut, sized-shut, fate-break, lines-break, fate-minute, lines-minute, sized-minute}
 use Rattle.scheduler.proofs.Branches.{decide-order, decide-refuse, decide-alone, submit-delayed, submit-decided, lowestHeld, refuse-none, refuse-some, call-fault, call-accept}
 use Rattle.scheduler.proofs.Searching.{sized-doAll, ready-unsettled}
 use Rattle.scheduler.proofs.Settling.{once-none, none-once, rest-none, rest-unbarred, settle-rest, sized-settling}
@@ -46,7 +46,7 @@ settled-rests : (s : State) → Sized s → AtRest (settle s)
 settled-rests s z = once-none (settle s) (sized-settling s z) (settle-rest s z)
 
 -- deciding an event keeps the lengths
-sized-decide : (s : State) (e : ℕ) → Sized s → Sized (decide s e)
+pub sized-decide : (s : State) (e : ℕ) → Sized s → Sized (decide s e)
 sized-decide s e z = go (chosen s e) refl
   where
     go : (q : Option (List ℕ)) → chosen s e ≡ q → Sized (decide s e)
@@ -74,7 +74,7 @@ refused-rests (suc n) s z h = go (lowestHeld s) refl (refused-rests n)
 
 -- a call that acts comes to rest
 accept-rests : (s : State) (c : Call) → Sized s → Acts s c → AtRest (accept s c .state)
-unfolding accept closeStep finish
+unfolding accept closeStep finish advanceTo
 accept-rests s (Submit e) z a =
     let o = ap isOpen (a .fresh e refl) in
     elim (either (delayable (s .plan) e)) [
@@ -85,6 +85,7 @@ accept-rests s (Close k) z a = settled-rests _ (lapse-sized (eventCount (s .plan
 accept-rests s Finish z a =
     let r = refused-rests 16 (settle s) (sized-settling s z) (settle-rest s z) in
     once-none (finish s) (r .1) (r .0)
+accept-rests s (Advance m) z a = settled-rests (setMinute s m) (sized-minute s m z)
 
 -- histories that grow, one after another
 abbrev Grows : State → State → Type 0
@@ -148,6 +149,10 @@ module _ (s : State) (e : ℕ) where
   unfolding doAlone
   alone-plan = recorded-plan s e (settleAs Done s e) (ruleCount (s .plan)) ∙ plan-settle Done s e
 
+  pub lines-alone : lines (doAlone s e) ≡ lines (settleAs Done s e)
+  unfolding doAlone
+  lines-alone = recorded-lines s e (settleAs Done s e) (ruleCount (s .plan))
+
   pub alone-fate : (d : ℕ) → fateOf (doAlone s e) d ≡ fateOf (settleAs Done s e) d
   unfolding doAlone
   alone-fate = recorded-fate s e (settleAs Done s e) (ruleCount (s .plan))
@@ -174,6 +179,8 @@ trail-grows (shuts {s} {t} k p r) z =
     grow-then s (shut s k) t (grow-same s (shut s k) (lines-shut s k)) (trail-grows r (sized-shut s k z))
 trail-grows (lapsed {s} {t} e p h r) z =
     grow-then s (settleAs Lapsed s e) t (settle-grows Lapsed s e z) (trail-grows r (sized-settle Lapsed s e z))
+trail-grows (moves {s} {t} m p h r) z =
+    grow-then s (setMinute s m) t (grow-same s (setMinute s m) (lines-minute s m)) (trail-grows r (sized-minute s m z))
 
 -- demand 2's doing
 pub doing : Doing scheduler
@@ -218,6 +225,7 @@ settled-fixed (alone {s} d p u j k n r) e h =
 settled-fixed (refused {s} d g r) e h =
     let same = fate-settle-other Refused s d e (apart s d e h (ap isSettled (ground-held g))) in
     settled-fixed r e (ap isSettled same ∙ h) ∙ same
+settled-fixed (moves {s} m p q r) e h = settled-fixed r e (ap isSettled (fate-minute s m e) ∙ h) ∙ fate-minute s m e
 settled-fixed (shuts {s} k p r) e h = settled-fixed r e (ap isSettled (fate-shut s k e) ∙ h) ∙ fate-shut s k e
 settled-fixed (lapsed {s} d p o r) e h =
     let same = fate-settle-other Lapsed s d e (apart s d e h (ap isSettled o)) in

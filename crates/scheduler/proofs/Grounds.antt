@@ -1,24 +1,24 @@
 -- Demand 2's grounds: every call is a trail of writes, each with its ground.
-use Prim.Native.Nat.{ℕ, zero, suc, _<_}
-use borrow.Author.Tests.{eqb-true, leb-false, not-false}
+use Prim.Native.Nat.{ℕ, zero, suc, _≤_, _<_}
+use borrow.Author.Tests.{eqb-true, ltb-false, leb-false, not-false}
 use mathlib.Core.Bool.{Bool, true, false, _&&_}
 use mathlib.Core.List.{List}
 use mathlib.Core.Logic.{_⊎_, inl, inr}
 use mathlib.Core.Option.{Option, none, some}
 use mathlib.Core.Path.{_≡_, refl, sym, _∙_, ap, subst}
 use lib.Dec.{eqb}
-use Rattle.scheduler.specs.Prelude.{[], Unknown, leb, Incoherent, Incoherent, not, Held, Open, Done, Refused, Lapsed, Plan, State, CallFault, Reply, Call, Submit, Close, Finish}
+use Rattle.scheduler.specs.Prelude.{[], Unknown, Backward, ltb, leb, Incoherent, Incoherent, not, Held, Open, Done, Refused, Lapsed, Plan, State, CallFault, Reply, Call, Submit, Close, Finish, Advance}
 use Rattle.plan.specs.Plans.{eventCount, ruleCount, stepOf, rejectable, delayable}
-use Rattle.scheduler.specs.State.{fateOf, hold, settleAs, shut, Sized}
+use Rattle.scheduler.specs.State.{fateOf, hold, settleAs, shut, setMinute, Sized}
 use Rattle.plan.specs.Fates.{isOpen}
 use Rattle.scheduler.specs.Orders.{chosen, doAll}
 use Rattle.scheduler.specs.Rules.{strains}
-use Rattle.scheduler.specs.Calls.{refuses, does, Turns, stay, turn, settleOnce, settle, breakIf, recordBroken, doAlone, decide, submit, lapse, closeStep, refuseHeld, finish}
+use Rattle.scheduler.specs.Calls.{refuses, does, Turns, stay, turn, settleOnce, settle, breakIf, recordBroken, doAlone, decide, submit, lapse, closeStep, refuseHeld, finish, advanceTo}
 use Rattle.scheduler.specs.Answers.{callRows, callFault, accept, call}
-use Rattle.scheduler.specs.Grounds.{by-bar, by-submission, by-finish, Trail, end, held, ordered, alone, refused, shuts, lapsed, Grounded}
+use Rattle.scheduler.specs.Grounds.{by-bar, by-submission, by-finish, Trail, end, held, ordered, alone, refused, shuts, lapsed, moves, Grounded}
 use Rattle.plan.proofs.Tests.{and-left, and-right, either}
 use Rattle.plan.proofs.Fates.{open-is}
-use Rattle.scheduler.proofs.Laws.{plan-hold, fate-hold-same, sized-hold, sized-shut, sized-break, sized-settle}
+use Rattle.scheduler.proofs.Laws.{plan-hold, fate-hold-same, sized-hold, sized-shut, sized-break, sized-minute, sized-settle}
 use Rattle.scheduler.proofs.Branches.{decide-order, decide-refuse, decide-alone, submit-same, submit-delayed, submit-decided, lapse-yes, lapse-no, lowestHeld, refuse-none, refuse-some, call-fault, call-accept}
 use Rattle.scheduler.proofs.Searching.{sized-doAll, chosen-none, chosen-first}
 use Rattle.scheduler.proofs.Settling.{held-tested, lowest-some, once-none, settle-turns, settle-rest, sized-settling}
@@ -37,6 +37,7 @@ then (alone e p u d j n r) q = alone e p u d j n (then r q)
 then (refused e g r) q = refused e g (then r q)
 then (shuts k p r) q = shuts k p (then r q)
 then (lapsed e p h r) q = lapsed e p h (then r q)
+then (moves m p h r) q = moves m p h (then r q)
 
 -- recording rules as broken keeps the lengths
 sized-recordBroken : (n : ℕ) (s : State) (e : ℕ) (t : State) → Sized t → Sized (recordBroken n s e t)
@@ -58,7 +59,7 @@ turns-trail stay = end
 turns-trail (turn (refuses e l) ts) = refused e (by-bar (l .is .0) (l .is .1)) (turns-trail ts)
 turns-trail (turn (does e o nb l f) ts) = ordered e o (l .is .0) f (turns-trail ts)
 
-settle-trail : (c : Call) (s : State) → Sized s → Trail c s (settle s)
+pub settle-trail : (c : Call) (s : State) → Sized s → Trail c s (settle s)
 settle-trail c s z = turns-trail (settle-turns s z)
 
 -- an event that isn't delayable, just held
@@ -104,7 +105,7 @@ module _ (s : State) (e : ℕ) (z : Sized s) (lt : e < 16) where
     | inr d ↦ subst (Trail (Submit e) (hold s e)) (sym (submit-decided s e is-open d)) (decide-trail s e z lt d)
   ]
 
-  submit-trail : Trail (Submit e) s (submit s e)
+  pub submit-trail : Trail (Submit e) s (submit s e)
   submit-trail = elim (either (isOpen (fateOf s e))) [
     | inr shut ↦ subst (Trail (Submit e) s) (sym (submit-same s e shut)) end
     | inl is-open ↦ held e refl (open-is (fateOf s e) is-open) (held-trail is-open)
@@ -126,7 +127,7 @@ lapse-trail (suc n) e s k z = elim (either (isOpen (fateOf s e) && eqb (stepOf (
 pub lapse-sized : (n e : ℕ) (s : State) (k : ℕ) → Sized s → Sized (lapse n e s k)
 lapse-sized n e s k z = lapse-trail n e s k z .1
 
-close-trail : (s : State) (k : ℕ) → Sized s → Trail (Close k) s (closeStep s k)
+pub close-trail : (s : State) (k : ℕ) → Sized s → Trail (Close k) s (closeStep s k)
 unfolding closeStep
 close-trail s k z =
     let r = lapse-trail (eventCount (s .plan)) 0 (shut s k) k (sized-shut s k z) in
@@ -150,9 +151,20 @@ refuse-trail (suc n) s z rest = go (lowestHeld s) refl (refuse-trail n)
         (refused e (by-finish refl (lowest-some s (held-tested s) e h) (once-none s z rest))
         (then (settle-trail Finish t z′) (rec (settle t) (sized-settling t z′) (settle-rest t z′))))
 
-finish-trail : (s : State) → Sized s → Trail Finish s (finish s)
+pub finish-trail : (s : State) → Sized s → Trail Finish s (finish s)
 unfolding finish
 finish-trail s z = then (settle-trail Finish s z) (refuse-trail 16 (settle s) (sized-settling s z) (settle-rest s z))
+
+-- moving the minute, where it is not below
+pub move-trail : (s : State) (m : ℕ) → Sized s → s .minute ≤ m → Trail (Advance m) s (advanceTo s m)
+unfolding advanceTo
+move-trail s m z h = moves m refl h (settle-trail (Advance m) (setMinute s m) (sized-minute s m z))
+
+move-late : (s : State) (m : ℕ) → callFault s (Advance m) ≡ none → s .minute ≤ m
+unfolding callFault
+move-late s m h =
+    let q = none-applies (not (coherent s)) Incoherent (callRows s (Advance m)) h in
+    ltb-false m (s .minute) (none-applies (ltb m (s .minute)) Backward [] (q .1) .0)
 
 -- a hand-in that is taken names an event that stands in the arrays
 pub submit-low : (s : State) (e : ℕ) → callFault s (Submit e) ≡ none → e < 16
@@ -168,6 +180,7 @@ unfolding accept
 accept-trail s (Submit e) z h = submit-trail s e z (submit-low s e h)
 accept-trail s (Close k) z h = close-trail s k z
 accept-trail s Finish z h = finish-trail s z
+accept-trail s (Advance m) z h = move-trail s m z (move-late s m h)
 
 pub grounded : Grounded scheduler
 grounded s c z = go (callFault s c) refl

@@ -1,4 +1,4 @@
--- What a state reads after each of the four writes. Everything above uses these laws and not the records' text.
+-- What a state reads after each of the five writes. Everything above uses these laws and not the records' text.
 use Prim.Native.Nat.{ℕ, _+_, _≤_, _<_}
 use native.Mathlib.Omega.{arith}
 use native.Mathlib.Decide.{ℕ-discrete, decLt}
@@ -13,7 +13,7 @@ use lib.Seq.{take-suc-set}
 use Rattle.scheduler.specs.Prelude.{Fate, Open, Held, Standing, State}
 use Rattle.plan.specs.Fates.{isOpen, isDone, isSettled, blankStanding}
 use Rattle.plan.specs.Histories.{blankEntry}
-use Rattle.scheduler.specs.State.{fateOf, brokenAt, closedAt, lineCount, lines, hold, settleAs, shut, breakRule, Sized}
+use Rattle.scheduler.specs.State.{fateOf, brokenAt, closedAt, lineCount, lines, hold, settleAs, shut, breakRule, setMinute, Sized}
 use Rattle.plan.proofs.Fates.{as-done}
 use Rattle.plan.proofs.Arrays.{read-past, read-other, get-other, length-store, read-same}
 use Rattle.scheduler.specs.Orders.{fateAtTurn, doOne}
@@ -198,6 +198,61 @@ module _ (s : State) (k : ℕ) where
     closed-len = length-store 8 (s .closed) k true ∙ z .closed-len;
     history-len = z .history-len;
   }
+
+-- the minute is moved
+module _ (s : State) (m : ℕ) where
+  pub plan-minute : (setMinute s m) .plan ≡ s .plan
+  unfolding setMinute
+  plan-minute = refl
+
+  pub fate-minute : (e : ℕ) → fateOf (setMinute s m) e ≡ fateOf s e
+  unfolding setMinute
+  fate-minute e = refl
+
+  pub broken-minute : (i : ℕ) → brokenAt (setMinute s m) i ≡ brokenAt s i
+  unfolding setMinute
+  broken-minute i = refl
+
+  pub closed-minute : (k : ℕ) → closedAt (setMinute s m) k ≡ closedAt s k
+  unfolding setMinute
+  closed-minute k = refl
+
+  pub history-minute : (setMinute s m) .history ≡ s .history
+  unfolding setMinute
+  history-minute = refl
+
+  pub len-minute : lineCount (setMinute s m) ≡ lineCount s
+  unfolding setMinute
+  len-minute = refl
+
+  pub lines-minute : lines (setMinute s m) ≡ lines s
+  unfolding setMinute
+  lines-minute = refl
+
+  pub minute-moved : (setMinute s m) .minute ≡ m
+  unfolding setMinute
+  minute-moved = refl
+
+  pub sized-minute : Sized s → Sized (setMinute s m)
+  unfolding setMinute
+  sized-minute z = record { standings-len = z .standings-len; broken-len = z .broken-len; closed-len = z .closed-len; history-len = z .history-len }
+
+-- the other writes leave it
+pub minute-settle : (x : Fate) (s : State) (e : ℕ) → (settleAs x s e) .minute ≡ s .minute
+unfolding settleAs
+minute-settle x s e = refl
+
+pub minute-hold : (s : State) (e : ℕ) → (hold s e) .minute ≡ s .minute
+unfolding hold
+minute-hold s e = refl
+
+pub minute-shut : (s : State) (k : ℕ) → (shut s k) .minute ≡ s .minute
+unfolding shut
+minute-shut s k = refl
+
+pub minute-break : (s : State) (i : ℕ) → (breakRule s i) .minute ≡ s .minute
+unfolding breakRule
+minute-break s i = refl
 
 -- a rule is recorded as broken
 module _ (s : State) (i : ℕ) where

@@ -3,8 +3,7 @@
 use Prim.Native.Nat.{ℕ, _≤_, _<_}
 use native.Mathlib.Omega.{arith}
 use native.Mathlib.Decide.{ℕ-discrete}
-use borrow.Author.Tests.{not-true}
-use mathlib.Core.Bool.{true, not}
+use mathlib.Core.Bool.{true, false, not}
 use mathlib.Core.List.{List, [], _∷_, List·Memᴰ, List·Memᴰ·cases-cons, List·Memᴰ·not-nil, List·Memᴰ·head, List·Memᴰ·tail}
 use mathlib.Core.Logic.{inl, inr}
 use mathlib.Core.Option.{Option, none, some}
@@ -14,22 +13,22 @@ use Rattle.scheduler.specs.Prelude.{State}
 use Rattle.plan.specs.Base.{among}
 use Rattle.plan.specs.Fates.{Fates}
 use Rattle.plan.specs.Plans.{eventCount}
-use Rattle.plan.specs.Rules.{bars, makesWait, forbids, owes, ready}
+use Rattle.plan.specs.Rules.{bars, makesWait, forbids, owes}
 use Rattle.orders.specs.Closed.{Events, Closed, Fit, Least}
 use Rattle.orders.specs.Runs.{doing, May, Run}
 use Rattle.orders.specs.Stepwise.{stepwise}
-use Rattle.scheduler.specs.State.{fateOf, settleAs, Sized}
+use Rattle.scheduler.specs.State.{fateOf, inTime, settleAs, Sized}
 use Rattle.scheduler.specs.Rules.{stands, forbidden, owing}
 use Rattle.scheduler.specs.Orders.{mayDo, fateAtTurn, doOne, Runs, Viable, First, chosen}
 use Rattle.scheduler.specs.Internal.Hopeful.{Hopeful}
-use Rattle.plan.proofs.Tests.{and-left, and-right, and-both, or-left, or-right, or-both, clash, either}
+use Rattle.plan.proofs.Tests.{or-left, or-right, or-both, clash, either}
 use Rattle.orders.proofs.Grounds.{refuted, each-fails, all-fail, bars-grounds, grounds-bar, wait-grounds, grounds-wait, owes-grounds, grounds-owe}
 use Rattle.orders.proofs.Doing.{doing-same, doing-other}
 use Rattle.orders.proofs.Running.{inside, among-head, among-tail, among-cases, among-none, run-ready, run-closed, count-inside}
-use Rattle.orders.proofs.Cutting.{keep, run-keep, keep-length, keep-member, keep-all}
+use Rattle.orders.proofs.Cutting.{keep, run-keep, keep-length, keep-member, keep-before, keep-all}
 use Rattle.orders.proofs.Taking.{Ready, sound, Made, complete}
 use Rattle.scheduler.proofs.Laws.{sized-one, fate-settle-same, fate-settle-other}
-use Rattle.scheduler.proofs.Searching.{hand-bound, ready-bound, runs-differ, ahead-both, chosen-none, chosen-first}
+use Rattle.scheduler.proofs.Searching.{may-ready, may-free, may-of, hand-bound, ready-bound, runs-differ, run-time, ahead-both, chosen-none, chosen-first}
 
 -- an event stands in an order, as a test
 pub mem-among : {x : ℕ} (o : List ℕ) → List·Memᴰ x o → among x o ≡ true
@@ -43,19 +42,19 @@ among-mem x (c ∷ o) h = elim (among-cases x c o h) [ inl q ↦ List·Memᴰ·h
 -- an event may be done, in the words of grounds
 module _ (s : State) (c : ℕ) where
   may-grounds : c < eventCount (s .plan) → mayDo s c ≡ true → May (s .plan) (stands s) (fateOf s) c
-  unfolding mayDo forbidden forbids
+  unfolding forbidden forbids
   may-grounds lt h =
-      let free = each-fails (s .plan) (stands s) (λ r. forbids (s .plan) (fateOf s) r c) (not-true (forbidden s c) (and-right (ready (s .plan) (fateOf s) c) (not (forbidden s c)) h)) in
+      let free = each-fails (s .plan) (stands s) (λ r. forbids (s .plan) (fateOf s) r c) (may-free s c h) in
       record {
         declared = lt;
-        at-hand = and-left (ready (s .plan) (fateOf s) c) (not (forbidden s c)) h;
+        at-hand = may-ready s c h;
         unbarred = λ r st b. clash (grounds-bar (s .plan) (fateOf s) c r b) (or-left (bars (s .plan) (fateOf s) r c) (makesWait (s .plan) (fateOf s) r c) (free r st));
         unwaiting = λ r st w. clash (grounds-wait (s .plan) (fateOf s) c r w) (or-right (bars (s .plan) (fateOf s) r c) (makesWait (s .plan) (fateOf s) r c) (free r st));
       }
 
-  grounds-may : May (s .plan) (stands s) (fateOf s) c → mayDo s c ≡ true
-  unfolding mayDo forbidden forbids
-  grounds-may m =
+  grounds-may : May (s .plan) (stands s) (fateOf s) c → inTime s c ≡ true → mayDo s c ≡ true
+  unfolding forbidden forbids
+  grounds-may m t =
       let p = s .plan in
       let f = fateOf s in
       let free = all-fail p (stands s) (λ r. forbids p f r c) (λ r st.
@@ -64,7 +63,7 @@ module _ (s : State) (c : ℕ) where
       (makesWait p f r c)
       (refuted _ (λ t. m .unbarred r st (bars-grounds p f c r t)))
       (refuted _ (λ t. m .unwaiting r st (wait-grounds p f c r t)))) in
-      and-both (ready p f c) (not (forbidden s c)) (m .at-hand) (ap not free)
+      may-of s c (m .at-hand) free t
 
 -- the fates after an event is done
 pub fates-one : (s : State) (c : ℕ) → Sized s → c < 16 → fateOf (doOne s c) ≡ doing (fateOf s) c
@@ -90,20 +89,28 @@ run-of s z [] h =
 run-of s z (c ∷ o) h =
     (may-grounds s c (h .0) (h .1), run-after s c o z (ready-bound s c (h .1)) (run-of (doOne s c) (sized-one s c z) o (h .2)))
 
-pub of-run : (s : State) → Sized s → (o : List ℕ) → Run (s .plan) (stands s) (fateOf s) o → Runs s o
+-- the events of an order are in time
+abbrev pub Timely : State → List ℕ → Type 0
+Timely s o = (x : ℕ) → among x o ≡ true → inTime s x ≡ true
+
+timely-rest : (s : State) (c : ℕ) (o : List ℕ) → Timely s (c ∷ o) → Timely (doOne s c) o
+unfolding settleAs
+timely-rest s c o t x h = t x (among-tail x c o h)
+
+pub of-run : (s : State) → Sized s → (o : List ℕ) → Timely s o → Run (s .plan) (stands s) (fateOf s) o → Runs s o
 unfolding owing
-of-run s z [] h =
+of-run s z [] t h =
     all-fail (s .plan) (stands s) (λ u. owes (s .plan) (fateOf s) u) (λ r st. refuted _ (λ t. h r st (owes-grounds (s .plan) (fateOf s) r t)))
-of-run s z (c ∷ o) h =
-    let may = grounds-may s c (h .0) in
-    (h .0 .declared, may, of-run (doOne s c) (sized-one s c z) o (after-run s c o z (ready-bound s c may) (h .1)))
+of-run s z (c ∷ o) t h =
+    let may = grounds-may s c (h .0) (t c (among-head c c o refl)) in
+    (h .0 .declared, may, of-run (doOne s c) (sized-one s c z) o (timely-rest s c o t) (after-run s c o z (ready-bound s c may) (h .1)))
 
 -- for any closed set with e
 module _ (s : State) (z : Sized s) (e : ℕ) (m : Events) (cl : Closed (s .plan) (stands s) (fateOf s) m) (has : m e ≡ true) where
   -- an order cut down to it stays viable
   pub cut-viable : (o : List ℕ) → Viable s e o → Viable s e (keep m o)
   cut-viable o v =
-      let r = of-run s z (keep m o) (run-keep (s .plan) (stands s) m (fateOf s) cl o (run-of s z o (v .runs))) in
+      let r = of-run s z (keep m o) (λ x h. run-time s o (v .runs) x (among-mem x o (keep-before m o x h))) (run-keep (s .plan) (stands s) m (fateOf s) cl o (run-of s z o (v .runs))) in
       record {
         contains = among-mem e (keep m o) (keep-member m o e has (mem-among o (v .contains)));
         short = omega (arith, v .short, keep-length m o);
@@ -130,6 +137,14 @@ viable-for o v x h = record { contains = among-mem x o h; short = v .short; diff
 
 pub first-shortest : (s : State) (e : ℕ) (o : List ℕ) → First s e o → (q : List ℕ) → Viable s e q → length o ≤ length q
 first-shortest s e o f q v = elim (f .least q v) [ inl lt ↦ omega arith | inr w ↦ omega (arith, w .0) ]
+
+-- an event that is not in time has no order
+pub untimely-none : (s : State) → Sized s → (e : ℕ) → inTime s e ≡ false → chosen s e ≡ none
+untimely-none s z e h = go (chosen s e) refl
+  where
+    go : (q : Option (List ℕ)) → chosen s e ≡ q → chosen s e ≡ none
+    go none q = q
+    go (some o) q = let v = chosen-first s e z o q .viable in absurd (clash (run-time s o (v .runs) e (v .contains)) h)
 
 -- every event of a viable order may have one
 pub hopeful-every : (s : State) → Sized s → (able : Events) → Hopeful s able → (e : ℕ) (o : List ℕ) → Viable s e o → (x : ℕ) → among x o ≡ true → able x ≡ true
@@ -173,13 +188,13 @@ module _ (s : State) (z : Sized s) (e : ℕ) (able : Events) (k : Hopeful s able
     least-inside o v = least .least (inside o) (viable-fit o v)
 
     ready-set : Ready (s .plan) (stands s) (fateOf s) m
-    ready-set = record { hand = λ x t. k .hand x (least .fit .ables x t); low = λ x t. low-able x (least .fit .ables x t) }
+    ready-set = record { hand = λ x t. let w = k .hand x (least .fit .ables x t) in (w .0, w .1); low = λ x t. low-able x (least .fit .ables x t) }
 
     -- what is taken step by step is viable
     taken-viable : (o : List ℕ) → stepwise (s .plan) (stands s) 6 (fateOf s) m ≡ some o → Viable s e o
     taken-viable o h =
         let u = sound (s .plan) (stands s) 6 (fateOf s) m o h (least .fit .closed) ready-set in
-        let r = of-run s z o (u .runs) in
+        let r = of-run s z o (λ x h. k .hand x (least .fit .ables x (u .within x h)) .2) (u .runs) in
         record {
           contains = among-mem e o (u .whole e (least .fit .contains));
           short = u .short;

@@ -6,10 +6,12 @@ pub mod Searching
 pub mod LeastSets
 pub mod Sizes
 pub mod SearchLoops
+pub mod Timings
 pub mod Settling
 pub mod SettleLoops
 pub mod Grounds
 pub mod Doing
+pub mod Courses
 pub mod Decimals
 pub mod CallLoops
 pub mod CallSteps

@@ -23,7 +23,7 @@ use Rattle.members.specs.declared.view.View.{View}
 use Rattle.members.specs.Sets.{inSet, orSixteen, Shows}
 use Rattle.members.specs.Growing.{Closes}
 use Rattle.members.specs.Lacking.{Spared}
-use Rattle.scheduler.specs.State.{fateOf, settleAs, Sized}
+use Rattle.scheduler.specs.State.{fateOf, inTime, settleAs, Sized}
 use Rattle.scheduler.specs.Rules.{stands}
 use Rattle.scheduler.specs.Orders.{doOne, chosen, opens, noOrder, foundOrder}
 use Rattle.scheduler.specs.Internal.Hopeful.{Hopeful}
@@ -35,8 +35,8 @@ use Rattle.orders.proofs.Grounds.{refuted}
 use Rattle.orders.proofs.Lowest.{lowest-some, lowest-none, lowest-alike}
 use Rattle.orders.proofs.Taking.{less-in, less-stays, none-nothing, some-left, step-ends, step-full, step-stuck, step-takes}
 use Rattle.members.proofs.Bits.{in-one}
-use Rattle.scheduler.proofs.LeastSets.{fates-one, no-fit-none, chosen-taken}
-use Rattle.scheduler.proofs.Searching.{chosen-short}
+use Rattle.scheduler.proofs.LeastSets.{fates-one, untimely-none, no-fit-none, chosen-taken}
+use Rattle.scheduler.proofs.Searching.{hand-bound, chosen-short}
 
 -- an answer that has no order, and one that has, for each way in which code hands an order over
 module _ (f : Option (List ℕ) → Found) (no : f none .ok ≡ false) (yes : (o : List ℕ) → f (some o) .ok ≡ true) where
@@ -263,30 +263,40 @@ module _ (s : State) (z : Sized s) (e able : ℕ) (k : Hopeful s (inSet able)) (
       go none q = rw q (unfold foundFrom foundOrder in refl)
       go (some o) q = rw q (found-all s o (chosen-short s e o q))
 
--- what a view says of the events at hand
-pub hopeful-all : (s : State) (v : View) → Shows (s .plan) (fateOf s) v → Hopeful s (inSet (v .able))
-hopeful-all s v w = record {
+-- what a view says of the events at hand, and a set of those that are in time
+pub hopeful-all : (s : State) (v : View) (times able : ℕ)
+    → Sized s
+    → Shows (s .plan) (fateOf s) v
+    → ((x : ℕ) → x < 16 → inSet times x ≡ inTime s x)
+    → ((x : ℕ) → inSet able x ≡ (inSet (v .able) x && inSet times x))
+    → Hopeful s (inSet able)
+hopeful-all s v times able z w timed both = record {
   hand = λ x h.
-      let t = sym (w .able x) ∙ h in
-      (ltb-true x (eventCount (s .plan)) (and-left (ltb x (eventCount (s .plan))) (ready (s .plan) (fateOf s) x) t), and-right (ltb x (eventCount (s .plan))) (ready (s .plan) (fateOf s) x) t);
-  others = λ x lt r n. absurd (clash (w .able x ∙ and-both (ltb x (eventCount (s .plan))) (ready (s .plan) (fateOf s) x) (lt-ltb x (eventCount (s .plan)) lt) r) n);
+      let u = sym (both x) ∙ h in
+      let t = sym (w .able x) ∙ and-left (inSet (v .able) x) (inSet times x) u in
+      let r = and-right (ltb x (eventCount (s .plan))) (ready (s .plan) (fateOf s) x) t in
+      (ltb-true x (eventCount (s .plan)) (and-left (ltb x (eventCount (s .plan))) (ready (s .plan) (fateOf s) x) t), r, sym (timed x (hand-bound s x r)) ∙ and-right (inSet (v .able) x) (inSet times x) u);
+  others = λ x lt r n. elim (either (inTime s x)) [
+    | inr f ↦ untimely-none s z x f
+    | inl t ↦
+        let hand = w .able x ∙ and-both (ltb x (eventCount (s .plan))) (ready (s .plan) (fateOf s) x) (lt-ltb x (eventCount (s .plan)) lt) r in
+        absurd (clash (both x ∙ and-both (inSet (v .able) x) (inSet times x) hand (timed x (hand-bound s x r) ∙ t)) n)
+  ];
 }
 
 -- and what one pass over the rules leaves of them
-pub hopeful-spared : (s : State) (v : View) (left : Events)
+pub hopeful-spared : (s : State) (able left : Events)
     → Sized s
-    → Shows (s .plan) (fateOf s) v
-    → Spared (s .plan) (stands s) (fateOf s) (inSet (v .able)) left
+    → Hopeful s able
+    → Spared (s .plan) (stands s) (fateOf s) able left
     → Hopeful s left
-hopeful-spared s v left z w spared =
-    let all = hopeful-all s v w in
-    record {
-      hand = λ x h. all .hand x (spared .within x h);
-      others = λ x lt r out. elim (either (inSet (v .able) x)) [
-        | inl t ↦ no-fit-none s z x (inSet (v .able)) all (spared .dropped x t out)
-        | inr t ↦ all .others x lt r t
-      ];
-    }
+hopeful-spared s able left z all spared = record {
+  hand = λ x h. all .hand x (spared .within x h);
+  others = λ x lt r out. elim (either (able x)) [
+    | inl t ↦ no-fit-none s z x able all (spared .dropped x t out)
+    | inr t ↦ all .others x lt r t
+  ];
+}
 
 -- an event that has no order is remembered
 pub hopeful-less : (s : State) (able one after e : ℕ)

@@ -12,7 +12,7 @@ use lib.Dec.{eqb}
 use lib.ListN.{length}
 use Rattle.scheduler.specs.Prelude.{Fate, Open, Held, Done, Refused, Lapsed, Forced, Event, Plan, State}
 use Rattle.plan.specs.Plans.{eventCount, eventAt, blankEvent, holdsBit, forcible}
-use Rattle.scheduler.specs.State.{fateOf, Sized}
+use Rattle.scheduler.specs.State.{fateOf, inTime, settleAs, Sized}
 use Rattle.plan.specs.Fates.{isOpen, isHeld, isSettled}
 use Rattle.scheduler.specs.Rules.{forbidden, owing}
 use Rattle.plan.specs.Rules.{ready}
@@ -21,10 +21,30 @@ use Rattle.orders.specs.Sequences.{Ahead}
 use Rattle.plan.proofs.Tests.{or-right-true, or-either, and-left, and-right, and-both, either, clash, any-some, any-found, first-none, first-some, when-none, when-some, some-none}
 use Rattle.scheduler.proofs.Laws.{plan-one, one-settled, settled-one, sized-one, fate-past}
 
--- an event that may be done is unsettled, and past the array there is none: the blank event is open and not forcible
+-- an event that may be done is at hand, no rule is against it, and it is in time
+module _ (s : State) (c : ℕ) (m : mayDo s c ≡ true) where
+  may-both : (ready (s .plan) (fateOf s) c && not (forbidden s c)) ≡ true
+  unfolding mayDo
+  may-both = and-left (ready (s .plan) (fateOf s) c && not (forbidden s c)) (inTime s c) m
+
+  pub may-ready : ready (s .plan) (fateOf s) c ≡ true
+  may-ready = and-left (ready (s .plan) (fateOf s) c) (not (forbidden s c)) may-both
+
+  pub may-free : forbidden s c ≡ false
+  may-free = not-true (forbidden s c) (and-right (ready (s .plan) (fateOf s) c) (not (forbidden s c)) may-both)
+
+  pub may-time : inTime s c ≡ true
+  unfolding mayDo
+  may-time = and-right (ready (s .plan) (fateOf s) c && not (forbidden s c)) (inTime s c) m
+
+pub may-of : (s : State) (c : ℕ) → ready (s .plan) (fateOf s) c ≡ true → forbidden s c ≡ false → inTime s c ≡ true → mayDo s c ≡ true
+unfolding mayDo
+may-of s c h f t = rw (h, f, t)
+
+-- it is unsettled, and past the array there is none: the blank event is open and not forcible
 pub ready-unsettled : (s : State) (c : ℕ) → mayDo s c ≡ true → isSettled (fateOf s c) ≡ false
-unfolding mayDo ready
-ready-unsettled s c m = go (fateOf s c) (and-left (ready (s .plan) (fateOf s) c) (not (forbidden s c)) m)
+unfolding ready
+ready-unsettled s c m = go (fateOf s c) (may-ready s c m)
   where
     go : (x : Fate) → (isHeld x || (isOpen x && forcible (s .plan) c)) ≡ true → isSettled x ≡ false
     go Open m = refl
@@ -48,8 +68,7 @@ hand-bound s c m = elim (decLt c 16) [
 ]
 
 pub ready-bound : (s : State) (c : ℕ) → mayDo s c ≡ true → c < 16
-unfolding mayDo
-ready-bound s c m = hand-bound s c (and-left (ready (s .plan) (fateOf s) c) (not (forbidden s c)) m)
+ready-bound s c m = hand-bound s c (may-ready s c m)
 
 -- doing an order keeps the plan and the lengths
 pub plan-doAll : (s : State) (o : List ℕ) → (doAll s o) .plan ≡ s .plan
@@ -106,6 +125,18 @@ run-declared s [] r e m = absurd (List·Memᴰ·not-nil m)
 run-declared s (c ∷ o) r e m = elim (List·Memᴰ·cases-cons m) [
   | inl q ↦ rw q (r .0, ready-bound s c (r .1))
   | inr m′ ↦ let d = run-declared (doOne s c) o (r .2) e m′ in (omega (arith, d .0, ap eventCount (plan-one s c)), d .1)
+]
+
+-- and in time from the first: doing an event moves neither the minute nor a window
+time-one : (s : State) (c e : ℕ) → inTime (doOne s c) e ≡ inTime s e
+unfolding settleAs
+time-one s c e = refl
+
+pub run-time : (s : State) (o : List ℕ) → Runs s o → (e : ℕ) → List·Memᴰ e o → inTime s e ≡ true
+run-time s [] r e m = absurd (List·Memᴰ·not-nil m)
+run-time s (c ∷ o) r e m = elim (List·Memᴰ·cases-cons m) [
+  | inl q ↦ subst (λ (d : ℕ). inTime s d ≡ true) (sym q) (may-time s c (r .1))
+  | inr m′ ↦ sym (time-one s c e) ∙ run-time (doOne s c) o (r .2) e m′
 ]
 
 -- the order contains e, or it was had already: the search's flag at the order's end

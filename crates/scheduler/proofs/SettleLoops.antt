@@ -4,7 +4,7 @@ use native.Mathlib.Numerals.{add-one, sub-one}
 use native.Mathlib.Omega.{arith}
 use native.Mathlib.Decide.{decLt}
 use borrow.Author.Tests.{lt-ltb, le-ltb}
-use mathlib.Core.Bool.{Bool, true, false, _&&_, and-false, or-false, and-assoc}
+use mathlib.Core.Bool.{Bool, true, false, _&&_, _||_, and-false, or-false, and-assoc}
 use mathlib.Core.List.{List, [], _∷_}
 use mathlib.Core.Logic.{inl, inr}
 use mathlib.Core.Option.{Option, none, some, Option·map}
@@ -22,15 +22,18 @@ use Rattle.orders.specs.Stepwise.{follows, blocked}
 use Rattle.members.specs.declared.view.View.{View}
 use Rattle.members.specs.Sets.{inSet, orSixteen, Shows}
 use Rattle.scheduler.specs.Orders.{doOne, doAll, chosen, opens, noOrder, foundOrder}
-use Rattle.scheduler.specs.State.{fateOf, settleAs}
+use Rattle.scheduler.specs.State.{fateOf, tooLate, settleAs}
 use Rattle.plan.specs.Fates.{isHeld, isDone, isGone, doneAs}
-use Rattle.scheduler.specs.Rules.{stands, barred}
+use Rattle.scheduler.specs.Rules.{stands, ruledOut, barred}
 use Rattle.scheduler.specs.Calls.{toRefuse, toDo, settleOnce, settleUpTo, settle, refuseHeld, finish}
 use Rattle.scheduler.specs.Internal.Hopeful.{Hopeful}
+use Rattle.scheduler.specs.declared.state.Written.{Written}
+use Rattle.scheduler.specs.Internal.Written.{writeOne, writeAll}
 use Rattle.scheduler.specs.Internal.Marked.{settleAll}
 use Rattle.scheduler.specs.Internal.Turned.{turnOf}
 use Rattle.plan.proofs.Tests.{and-left, and-not, clash, either, any-false, any-none, first-some, when-some, some-none}
 use Rattle.scheduler.proofs.Branches.{upTo-none, upTo-some, lowestHeld, refuse-none, refuse-some}
+use Rattle.plan.proofs.Windows.{unwindowed-past, unwindowed-over}
 use Rattle.plan.proofs.Loops.{Rest, first-here, first-end}
 use Rattle.scheduler.proofs.Searching.{chosen-short}
 use Rattle.scheduler.proofs.SearchLoops.{fits, opens-length, answer-some, answer-none, lowest-below, lowest-past, lowest-sixteen}
@@ -98,18 +101,18 @@ pub front-whole : {A : Type 0} (l : List A) (n : ℕ) → length l ≡ 6 → 6 �
 front-whole l n six ge = ap length (take-all n l (omega arith)) ∙ six
 
 -- a loop over an order and its marks: event i is settled by its mark, and at the end nothing is left
-module _ (l : List ℕ) (m : List Bool) (n i : ℕ) (s : State) where
-  pub settle-next : i < length (take n l)
+module _ (l : List ℕ) (m : List Bool) (n i : ℕ) (w : Written) where
+  pub write-next : i < length (take n l)
       → i < length (take n m)
-      → settleAll s (drop i (take n l)) (drop i (take n m))
-      ≡ settleAll (settleAs (doneAs (getD m i false)) s (getD l i 0)) (drop (i + 1) (take n l)) (drop (i + 1) (take n m))
-  unfolding settleAll
-  settle-next lt mt =
+      → writeAll w (drop i (take n l)) (drop i (take n m))
+      ≡ writeAll (writeOne (doneAs (getD m i false)) w (getD l i 0)) (drop (i + 1) (take n l)) (drop (i + 1) (take n m))
+  unfolding writeAll
+  write-next lt mt =
       rw (drop-cons (take n l) i 0 lt, front-same 0 n l i lt, drop-cons (take n m) i false mt, front-same false n m i mt, add-one i)
 
-  pub settle-end : length (take n l) ≤ i → settleAll s (drop i (take n l)) (drop i (take n m)) ≡ s
-  unfolding settleAll
-  settle-end le = rw (drop-of-length-le (take n l) {i = i} le)
+  pub write-end : length (take n l) ≤ i → writeAll w (drop i (take n l)) (drop i (take n m)) ≡ w
+  unfolding writeAll
+  write-end le = rw (drop-of-length-le (take n l) {i = i} le)
 
 -- what a view says of a declared event's being held
 pub held-seen : (s : State) (v : View)
@@ -145,17 +148,18 @@ module _ (s : State) (v : View) (w : Shows (s .plan) (fateOf s) v) where
   no-follow (Need a b) x = refl
   no-follow (Conditional a b c) x = refl
 
-  none-left : (x : ℕ) → blocked (s .plan) (stands s) (fateOf s) (inSet 0) x ≡ barred s x
-  unfolding blocked barred
+  none-left : (x : ℕ) → blocked (s .plan) (stands s) (fateOf s) (inSet 0) x ≡ ruledOut s x
+  unfolding blocked ruledOut
   none-left x = ap (anyBelow (ruleCount (s .plan))) (fun-ext (λ i. ap (λ (t : Bool). stands s i && t) (rw (no-follow (ruleAt (s .plan) i) x) (or-false (bars (s .plan) (fateOf s) (ruleAt (s .plan) i) x)))))
 
   held-past : (x : ℕ) → 16 ≤ x → isHeld (fateOf s x) ≡ false
   held-past x ge = ap isHeld (fate-past s x ge)
 
-  module _ (b d : ℕ) (is-barred : (x : ℕ) → x < 16 → inSet b x ≡ blocked (s .plan) (stands s) (fateOf s) (inSet 0) x) (both : (x : ℕ) → inSet d x ≡ (inSet (v .held) x && inSet b x)) where
+  module _ (b d : ℕ) (is-barred : (x : ℕ) → x < 16 → inSet b x ≡ blocked (s .plan) (stands s) (fateOf s) (inSet 0) x) (late : ℕ) (is-late : (x : ℕ) → x < 16 → inSet late x ≡ tooLate s x) (both : (x : ℕ) → inSet d x ≡ (inSet (v .held) x && (inSet b x || inSet late x))) where
     held-barred : (x : ℕ) → (ltb x (eventCount (s .plan)) && (isHeld (fateOf s x) && barred s x)) ≡ (ltb x 16 && inSet d x)
+    unfolding barred
     held-barred x = elim (decLt x 16) [
-      | yes lt ↦ sym (rw (lt-ltb x 16 lt, both x, w .held x, is-barred x lt, none-left x) (and-assoc (ltb x (eventCount (s .plan))) (isHeld (fateOf s x)) (barred s x)))
+      | yes lt ↦ sym (rw (lt-ltb x 16 lt, both x, w .held x, is-barred x lt, none-left x, is-late x lt) (and-assoc (ltb x (eventCount (s .plan))) (isHeld (fateOf s x)) (barred s x)))
       | no ge ↦ rw (le-ltb x 16 (omega arith), held-past x (omega arith)) (and-false (ltb x (eventCount (s .plan))))
     ]
 
@@ -177,14 +181,26 @@ module _ (s : State) (v : View) (w : Shows (s .plan) (fateOf s) v) where
     bars-none (Need a b) x = rw (not-gone b) (and-false (eqb x a))
     bars-none (Conditional a b c) x = rw (not-gone c)
 
-    unbarred : (x : ℕ) → barred s x ≡ false
-    unfolding barred
-    unbarred x = any-none (ruleCount (s .plan)) _ (λ i lt. ap (λ (b : Bool). stands s i && b) (bars-none (ruleAt (s .plan) i) x) ∙ and-false (stands s i))
+    unruled : (x : ℕ) → ruledOut s x ≡ false
+    unfolding ruledOut
+    unruled x = any-none (ruleCount (s .plan)) _ (λ i lt. ap (λ (b : Bool). stands s i && b) (bars-none (ruleAt (s .plan) i) x) ∙ and-false (stands s i))
 
-    pub none-barred : 16 ≡ orSixteen (toRefuse s)
-    unfolding toRefuse lowest
-    none-barred =
-        sym (ap orSixteen (first-nowhere (eventCount (s .plan)) 0 _ (λ x lo hi. rw (unbarred x, and-false (isHeld (fateOf s x))))))
+    -- nor is one too late where none is past its window
+    module _ (late : ℕ) (is-late : (x : ℕ) → x < 16 → inSet late x ≡ tooLate s x) (none-late : late ≡ 0) where
+      not-late : (x : ℕ) → tooLate s x ≡ false
+      not-late x = elim (decLt x 16) [
+        | yes lt ↦ sym (is-late x lt) ∙ ap (λ (m : ℕ). inSet m x) none-late ∙ in-zero x
+        | no ge ↦ unwindowed-over (s .plan) x (unwindowed-past (s .plan) x (omega arith)) (s .minute)
+      ]
+
+      unbarred : (x : ℕ) → barred s x ≡ false
+      unfolding barred
+      unbarred x = rw (unruled x, not-late x)
+
+      pub none-barred : 16 ≡ orSixteen (toRefuse s)
+      unfolding toRefuse lowest
+      none-barred =
+          sym (ap orSixteen (first-nowhere (eventCount (s .plan)) 0 _ (λ x lo hi. rw (unbarred x, and-false (isHeld (fateOf s x))))))
 
   -- where the view shows nothing held there is no turn to make
   module _ (e : ℕ) (same : e ≡ orSixteen (lowest 16 (inSet (v .held)))) (q : e ≡ 16) where

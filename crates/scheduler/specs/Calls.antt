@@ -1,9 +1,9 @@
--- The calls: settling, hand in, close a step, wind up.
+-- The calls: settling, hand in, close a step, wind up, move the minute.
 use Rattle.scheduler.specs.Prelude.{ℕ, zero, suc, _<_, Bool, true, false, _&&_, List, Option, none, some, Option·map, _≡_, eqb, Held, Done, Refused, Lapsed, State}
 use Rattle.plan.specs.Base.{firstOf, when, lowest}
 use Rattle.plan.specs.Fates.{isOpen, isHeld}
 use Rattle.plan.specs.Plans.{eventCount, ruleCount, stepOf, rejectable, delayable}
-use Rattle.scheduler.specs.State.{fateOf, hold, settleAs, shut, breakRule}
+use Rattle.scheduler.specs.State.{fateOf, hold, settleAs, shut, breakRule, setMinute}
 use Rattle.scheduler.specs.Rules.{barred, strains}
 use Rattle.scheduler.specs.Orders.{Viable, First, chosen, doAll}
 
@@ -108,6 +108,10 @@ lapse (suc n) e s k = elim (isOpen (fateOf s e) && eqb (stepOf (s .plan) e) k) [
 -- close a step: what is still open of it lapses, and the rest is settled (9.7)
 unfoldable pub closeStep : State → ℕ → State
 closeStep s k = settle (lapse (eventCount (s .plan)) 0 (shut s k) k)
+
+-- move the minute: what that allows and bars is settled (9.9)
+unfoldable pub advanceTo : State → ℕ → State
+advanceTo s m = settle (setMinute s m)
 
 -- the lowest held event is refused and the rest settled, over and over while one is held: at most n times (9.8)
 unfoldable pub refuseHeld : ℕ → State → State

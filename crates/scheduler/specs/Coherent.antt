@@ -3,7 +3,7 @@ use Rattle.scheduler.specs.Prelude.{ℕ, Bool, not, _&&_, _||_, leb, Sta
 use Rattle.plan.specs.Base.{allBelow}
 use Rattle.plan.specs.Fates.{isOpen, isHeld}
 use Rattle.plan.specs.Plans.{eventCount, ruleCount, stepOf, ruleAt, delayable}
-use Rattle.plan.specs.Rules.{soundEvent, soundRule, owes}
+use Rattle.plan.specs.Rules.{soundEvent, soundRule, soundWindows, owes}
 use Rattle.plan.specs.Histories.{holds, declaredOnly, listedAs}
 use Rattle.scheduler.specs.State.{fateOf, brokenAt, closedAt, lineCount, lines}
 
@@ -20,7 +20,7 @@ coherentRule s i =
     && (brokenAt s i
     || (not (owes (s .plan) (fateOf s) (ruleAt (s .plan) i)) && holds (lines s) (ruleAt (s .plan) i)))
 
--- number 12 does not apply: counts within their limits, events and rules that a sheet could declare, a history that
+-- number 12 does not apply: counts within their limits, events, rules and windows that a sheet could declare, a history that
 -- lists the settled events once each and nothing else, no event held that cannot wait, no event open in a closed step,
 -- and no rule that stands owing or broken (10.4, 10.5)
 unfoldable pub coherent : State → Bool
@@ -31,3 +31,4 @@ coherent s =
     && declaredOnly (lines s) (eventCount (s .plan))
     && allBelow (eventCount (s .plan)) (coherentEvent s)
     && allBelow (ruleCount (s .plan)) (coherentRule s)
+    && soundWindows (s .plan)

@@ -1,7 +1,7 @@
 -- Demand 3, of any scheduler. Its words are read off the plan, the calls and the history after each call: they cite
 -- the rules and `Viable`, and neither the search nor the calls of Orders.antt and Calls.antt.
-use Rattle.scheduler.specs.Prelude.{ℕ, _≤_, _<_, Bool, true, false, not, _&&_, _||_, List, [], _∷_, _++_, _≡_, eqb, ltb, length, getD, drop}
-use Rattle.scheduler.specs.Prelude.{Fate, Open, Held, Rule, Order, Need, Conditional, Plan, Entry, State, Call, Submit, Close, Finish}
+use Rattle.scheduler.specs.Prelude.{ℕ, _≤_, _<_, Bool, true, false, not, _&&_, _||_, List, [], _∷_, _++_, _≡_, eqb, ltb, leb, length, getD, drop}
+use Rattle.scheduler.specs.Prelude.{Fate, Open, Held, Rule, Order, Need, Conditional, Plan, Entry, State, Call, Submit, Close, Finish, Advance}
 use Rattle.plan.specs.Base.{allBelow, thoseBelow, among, tabulate}
 use Rattle.plan.specs.Fates.{isOpen, isDone, isSettled}
 use Rattle.plan.specs.Plans.{eventCount, ruleCount, ruleAt, forcible, rejectable, hasEvent}
@@ -35,16 +35,19 @@ abbrev pub submits : ℕ → Call → Bool
 submits e (Submit d) = eqb e d
 submits e (Close k) = false
 submits e Finish = false
+submits e (Advance m) = false
 
 abbrev pub closes : ℕ → Call → Bool
 closes k (Submit e) = false
 closes k (Close j) = eqb k j
 closes k Finish = false
+closes k (Advance m) = false
 
 abbrev pub isFinish : Call → Bool
 isFinish (Submit e) = false
 isFinish (Close k) = false
 isFinish Finish = true
+isFinish (Advance m) = false
 
 -- some call passes the test
 unfoldable pub anyCall : (Call → Bool) → List Call → Bool
@@ -60,6 +63,14 @@ wasClosed o k = anyCall (closes k) (o .calls)
 
 abbrev pub wasFinished : Observed → Bool
 wasFinished o = anyCall isFinish (o .calls)
+
+-- the minute: the one that the latest of the calls that moved it names, and 0 before them (11.6)
+unfoldable pub minuteAfter : List Call → ℕ
+minuteAfter [] = 0
+minuteAfter (Submit e ∷ cs) = minuteAfter cs
+minuteAfter (Close k ∷ cs) = minuteAfter cs
+minuteAfter (Finish ∷ cs) = minuteAfter cs
+minuteAfter (Advance m ∷ cs) = m
 
 abbrev pub waitsAs : Bool → Fate
 waitsAs true = Held
@@ -79,6 +90,7 @@ stateOf p o = record {
   closed = tabulate 8 0 (λ k. wasClosed o k);
   history = tabulate 16 0 (λ n. getD (o .history) n blankEntry);
   «history_len» = length (o .history);
+  minute = minuteAfter (o .calls);
 }
 
 -- nothing in the table stands against the call (number 12 aside, which never applies in a list) (11.4)
@@ -86,6 +98,7 @@ unfoldable pub accepted : Plan → Observed → Call → Bool
 accepted p o (Submit e) = ltb e (eventCount p)
 accepted p o (Close k) = hasEvent p k && not (wasClosed o k)
 accepted p o Finish = allBelow 8 (λ k. not (hasEvent p k) || wasClosed o k)
+accepted p o (Advance m) = leb (minuteAfter (o .calls)) m
 
 -- the first of the lines says that e was done (11.7)
 unfoldable pub startsDone : List Entry → ℕ → Bool
@@ -111,6 +124,7 @@ abbrev pub recordedBy : Plan → Observed → Call → List Entry → List ℕ
 recordedBy p o (Submit e) h = newlyRecorded p o e h
 recordedBy p o (Close k) h = []
 recordedBy p o Finish h = []
+recordedBy p o (Advance m) h = []
 
 -- what an accepted call shows, with the history after it; a call turned down shows its history alone (11.3)
 abbrev pub shows : Plan → Observed → Call → List Entry → Observed

@@ -1,7 +1,7 @@
 -- Demand 2's grounds, of any scheduler: the writes of a call, one after another, each with its ground (section 12)
-use Rattle.scheduler.specs.Prelude.{ℕ, true, false, List, _≡_, Open, Held, Refused, Lapsed, State, Call, Submit, Close, Finish}
+use Rattle.scheduler.specs.Prelude.{ℕ, _≤_, true, false, List, _≡_, Open, Held, Refused, Lapsed, State, Call, Submit, Close, Finish, Advance}
 use Rattle.plan.specs.Plans.{stepOf, rejectable, delayable}
-use Rattle.scheduler.specs.State.{fateOf, hold, settleAs, shut, Sized}
+use Rattle.scheduler.specs.State.{fateOf, hold, settleAs, shut, setMinute, Sized}
 use Rattle.scheduler.specs.Rules.{barred}
 use Rattle.scheduler.specs.Orders.{Viable, First, doAll}
 use Rattle.scheduler.specs.Calls.{Lowest, IsHeld, AtRest, doAlone}
@@ -46,6 +46,7 @@ pub data Trail (c : Call) : State → State → Type 0 where
       → fateOf s e ≡ Open
       → Trail c (settleAs Lapsed s e) t
       → Trail c s t
+  moves : {s t : State} (m : ℕ) → c ≡ Advance m → s .minute ≤ m → Trail c (setMinute s m) t → Trail c s t
 
 -- every call of a scheduler is such a trail (12.3)
 abbrev pub Grounded : Scheduler → Type 0

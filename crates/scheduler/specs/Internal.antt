@@ -2,4 +2,6 @@
 pub mod Hopeful
 pub mod Marked
 pub mod Placed
+pub mod Timing
 pub mod Turned
+pub mod Written

@@ -6,12 +6,12 @@ use Rattle.plan.specs.Plans.{eventCount}
 use Rattle.plan.specs.Rules.{ready}
 use Rattle.orders.specs.Sequences.{Ahead}
 use Rattle.scheduler.specs.declared.order.Found.{Found}
-use Rattle.scheduler.specs.State.{fateOf, settleAs}
+use Rattle.scheduler.specs.State.{fateOf, inTime, settleAs}
 use Rattle.scheduler.specs.Rules.{forbidden, owing}
 
--- the event is at hand, and no rule that stands is against it now (7.3)
+-- the event is at hand, no rule that stands is against it now, and its window allows it now (7.3)
 unfoldable pub mayDo : State → ℕ → Bool
-mayDo s c = ready (s .plan) (fateOf s) c && not (forbidden s c)
+mayDo s c = ready (s .plan) (fateOf s) c && not (forbidden s c) && inTime s c
 
 -- how an order settles an event: forced if it is open when its turn comes, else done (7.12)
 abbrev pub fateAtTurn : State → ℕ → Fate

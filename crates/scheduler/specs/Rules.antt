@@ -3,16 +3,20 @@ use Rattle.scheduler.specs.Prelude.{ℕ, Bool, not, _&&_, _||_, Done, St
 use Rattle.plan.specs.Base.{anyBelow}
 use Rattle.plan.specs.Plans.{ruleCount, ruleAt}
 use Rattle.plan.specs.Rules.{bars, forbids, owes}
-use Rattle.scheduler.specs.State.{fateOf, brokenAt, settleAs}
+use Rattle.scheduler.specs.State.{fateOf, brokenAt, tooLate, settleAs}
 
 -- the rule is not recorded as broken; one that is says nothing any more (6.1)
 abbrev pub stands : State → ℕ → Bool
 stands s i = not (brokenAt s i)
 
 -- some rule that stands is against doing e for good (6.4)
-unfoldable pub barred : State → ℕ → Bool
-barred s e =
+unfoldable pub ruledOut : State → ℕ → Bool
+ruledOut s e =
     anyBelow (ruleCount (s .plan)) (λ i. stands s i && bars (s .plan) (fateOf s) (ruleAt (s .plan) i) e)
+
+-- e can never be done any more: by a rule, or because its window is over (6.4, 6.13)
+unfoldable pub barred : State → ℕ → Bool
+barred s e = ruledOut s e || tooLate s e
 
 unfoldable pub forbidden : State → ℕ → Bool
 forbidden s e =

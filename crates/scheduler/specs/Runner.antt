@@ -4,7 +4,7 @@ use Rattle.plan.specs.Base.{oneIf, countBelow}
 use Rattle.plan.specs.Fates.{isHeld}
 use Rattle.plan.specs.Plans.{eventCount, ruleCount}
 use Rattle.plan.specs.Faults.{sheetFaultNumber}
-use Rattle.plan.specs.Calls.{Decoded, decode}
+use Rattle.plan.specs.Calls.{Decoded, decode, decodeAll}
 use Rattle.scheduler.specs.State.{fateOf, brokenAt, lines}
 use Rattle.scheduler.specs.Sheet.{readSheet}
 use Rattle.scheduler.specs.Lists.{scheduler, after, turnedDown}
@@ -26,6 +26,10 @@ runOn r d = elim (r .verdict) [
 
 unfoldable pub runOf : List ℕ → List ℕ → Outcome
 runOf sheet calls = runOn (readSheet sheet) (decode calls)
+
+-- the same with calls of every kind, moves of the minute among them (13.2)
+unfoldable pub replayOf : List ℕ → List ℕ → Outcome
+replayOf sheet calls = runOn (readSheet sheet) (decodeAll calls)
 
 -- the two counts that a report gives of a state (13.4)
 abbrev pub heldCount : State → ℕ

@@ -1,11 +1,13 @@
--- The state: how it is read, and the four ways in which it is written.
+-- The state: how it is read, and the five ways in which it is written.
 use Rattle.scheduler.specs.Prelude.{ℕ, _+_, Bool, true, false, cond, List, _≡_, ltb, length, take, replicate, Fate, Held, Plan, Entry, State}
+use Rattle.scheduler.specs.declared.state.Course.{Course}
 use Rattle.plan.specs.Base.{readAt, storeAt}
 use Rattle.plan.specs.Fates.{Fates, fatesOf, blankStanding}
-use Rattle.plan.specs.Plans.{emptyPlan}
+use Rattle.plan.specs.Plans.{emptyPlan, allowedAt, overAt}
 use Rattle.plan.specs.Histories.{blankEntry}
 
--- nothing has happened: every event is open, no step is closed, nothing is recorded and the history is empty (5.5)
+-- nothing has happened: every event is open, no step is closed, nothing is recorded, the history is empty and the minute
+-- is 0 (5.5)
 abbrev pub firstState : Plan → State
 firstState p = record {
   plan = p;
@@ -14,6 +16,7 @@ firstState p = record {
   closed = replicate 8 false;
   history = replicate 16 blankEntry;
   «history_len» = 0;
+  minute = 0;
 }
 
 -- the first state of a plan without events and rules (5.6)
@@ -31,6 +34,13 @@ brokenAt s i = readAt 16 (s .broken) i false
 abbrev pub closedAt : State → ℕ → Bool
 closedAt s k = readAt 8 (s .closed) k false
 
+-- the event may be done, or forced, now; its window is over (2.11)
+abbrev pub inTime : State → ℕ → Bool
+inTime s e = allowedAt (s .plan) (s .minute) e
+
+abbrev pub tooLate : State → ℕ → Bool
+tooLate s e = overAt (s .plan) (s .minute) e
+
 abbrev pub lineCount : State → ℕ
 lineCount s = s .«history_len»
 
@@ -38,7 +48,7 @@ lineCount s = s .«history_len»
 abbrev pub lines : State → List Entry
 lines s = take (lineCount s) (s .history)
 
--- the four ways in which a call writes the state: an open event becomes held (5.7)
+-- the five ways in which a call writes the state: an open event becomes held (5.7)
 unfoldable pub hold : State → ℕ → State
 hold s e = record {
   plan = s .plan;
@@ -47,6 +57,7 @@ hold s e = record {
   closed = s .closed;
   history = s .history;
   «history_len» = lineCount s;
+  minute = s .minute;
 }
 
 -- an event is settled: its fate is written and its line added to the history. The line count stops at 16 (it is never
@@ -59,6 +70,7 @@ settleAs x s e = record {
   closed = s .closed;
   history = storeAt 16 (s .history) (lineCount s) (record { event = e; fate = x });
   «history_len» = cond (ltb (lineCount s) 16) (lineCount s + 1) (lineCount s);
+  minute = s .minute;
 }
 
 -- a step is closed (5.7)
@@ -70,6 +82,7 @@ shut s k = record {
   closed = storeAt 8 (s .closed) k true;
   history = s .history;
   «history_len» = lineCount s;
+  minute = s .minute;
 }
 
 -- a rule is recorded as broken (5.7)
@@ -81,6 +94,42 @@ breakRule s i = record {
   closed = s .closed;
   history = s .history;
   «history_len» = lineCount s;
+  minute = s .minute;
+}
+
+-- the minute is moved (5.7)
+unfoldable pub setMinute : State → ℕ → State
+setMinute s m = record {
+  plan = s .plan;
+  standings = s .standings;
+  broken = s .broken;
+  closed = s .closed;
+  history = s .history;
+  «history_len» = lineCount s;
+  minute = m;
+}
+
+-- what calls change of a state: all but its plan (5.7)
+abbrev pub courseOf : State → Course
+courseOf s = record {
+  standings = s .standings;
+  broken = s .broken;
+  closed = s .closed;
+  history = s .history;
+  «history_len» = lineCount s;
+  minute = s .minute;
+}
+
+-- the same plan, with what calls have changed (5.7)
+abbrev pub withCourse : State → Course → State
+withCourse s c = record {
+  plan = s .plan;
+  standings = c .standings;
+  broken = c .broken;
+  closed = c .closed;
+  history = c .history;
+  «history_len» = c .«history_len»;
+  minute = c .minute;
 }
 
 -- the arrays have their lengths, as in every state that code can hold (5.4)

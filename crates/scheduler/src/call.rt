@@ -1,8 +1,10 @@
-// The calls: hand in, close a step, wind up. Each takes the state and gives the answer and the state after it; one
-// that is turned down gives back the state as it came in.
+// The calls: hand in, close a step, wind up, advance the minute. Each takes the state and gives the answer and the state
+// after it; one that is turned down gives back the state as it came in.
 use super::reply::Reply;
 use super::settle::Turned;
+use super::state::Course;
 use super::state::State;
+use super::state::do_events;
 use members::rule::does_forbid;
 use members::rule::does_owe;
 use members::set::lowest_of;
@@ -12,17 +14,19 @@ use plan::calls::Call;
 use plan::event::is_delayable;
 use plan::event::is_rejectable;
 use plan::fate::Fate;
+use plan::fate::Standing;
 use plan::fate::is_held;
 use plan::fate::is_open;
+use plan::history::Entry;
 use plan::plan::has_event;
 ghost use mathlib.Core.Path.{_≡_};
 ghost use mathlib.Core.Option.{Option·map};
-ghost use Rattle.scheduler.specs.Prelude.{Refused, Submit, Close, Finish};
+ghost use Rattle.scheduler.specs.Prelude.{Refused, Submit, Close, Finish, Advance};
 ghost use Rattle.plan.specs.Base.{anyBelow, lowest};
 ghost use Rattle.plan.specs.Fates.{isHeld};
 ghost use Rattle.plan.specs.Plans.{eventCount};
-ghost use Rattle.scheduler.specs.State.{fateOf, settleAs};
-ghost use Rattle.scheduler.specs.Calls.{settle, breakIf, doAlone, decide, submit, lapse, closeStep, refuseHeld, finish};
+ghost use Rattle.scheduler.specs.State.{fateOf, hold, settleAs, shut, courseOf, withCourse};
+ghost use Rattle.scheduler.specs.Calls.{settle, breakIf, doAlone, decide, submit, lapse, closeStep, refuseHeld, finish, advanceTo};
 ghost use Rattle.scheduler.specs.Answers.{unclosedAt, turnsDown, idle, accept, turnedDownBy, takeCall, call};
 ghost use Rattle.scheduler.specs.Internal.Turned.{turnOf};
 
@@ -57,9 +61,27 @@ impl State {
         if self.has_unclosed() {
             return self.turn_down(CallFault::NotClosed);
         }
+        let course = self.after_finish();
         Reply {
             answer: Answer::Made,
-            state: self.after_finish(),
+            state: self.with_course(course),
+        }
+    }
+
+    // Advance to a minute: the current one or a later one.
+    pub fn advance(self, minute: u32) -> Reply
+        ensures { λ r. ⌜ r ≡ call self (Advance minute) ⌝ }
+    {
+        if !self.is_coherent() {
+            return self.turn_down(CallFault::Incoherent);
+        }
+        if minute < self.minute {
+            return self.turn_down(CallFault::Backward);
+        }
+        let course = self.after_advance(minute);
+        Reply {
+            answer: Answer::Made,
+            state: self.with_course(course),
         }
     }
 
@@ -71,6 +93,7 @@ impl State {
             Call::Submit(event) => self.submit(event),
             Call::Close(step) => self.close_step(step),
             Call::Finish => self.finish(),
+            Call::Advance(minute) => self.advance(minute),
         }
     }
 
@@ -82,7 +105,8 @@ impl State {
         if plan.event_count <= event {
             return self.turn_down(CallFault::Unknown);
         }
-        let state = self.after_submit(event);
+        let course = self.after_submit(event);
+        let state = self.with_course(course);
         let standings = state.standings;
         let mut fate = Fate::Open;
         if event < 16 {
@@ -110,9 +134,10 @@ impl State {
                 return self.turn_down(CallFault::AlreadyClosed);
             }
         }
+        let course = self.after_close(step);
         Reply {
             answer: Answer::Made,
-            state: self.after_close(step),
+            state: self.with_course(course),
         }
     }
 
@@ -136,6 +161,7 @@ impl State {
                 !has_event(events, plan.event_count, step)
             }
             Call::Finish => self.has_unclosed(),
+            Call::Advance(minute) => minute < self.minute,
         }
     }
 
@@ -155,17 +181,19 @@ impl State {
             }
             Call::Close(step) => false,
             Call::Finish => !self.has_held(),
+            Call::Advance(minute) => false,
         }
     }
 
-    // The state after a call that is taken.
-    pub fn after_call(self, made: Call) -> State
-        ensures { λ r. ⌜ r ≡ accept self made .state ⌝ }
+    // What a call that is taken leaves of the state, all but the plan, which no call changes.
+    pub fn after_call(self, made: Call) -> Course
+        ensures { λ r. ⌜ withCourse self r ≡ accept self made .state ⌝ }
     {
         match made {
             Call::Submit(event) => self.after_submit(event),
             Call::Close(step) => self.after_close(step),
             Call::Finish => self.after_finish(),
+            Call::Advance(minute) => self.after_advance(minute),
         }
     }
 
@@ -205,33 +233,9 @@ impl State {
         next
     }
 
-    // A held event that is not delayable: its chosen order, else refused if it is rejectable, else done alone.
-    fn decide(self, event: u8) -> State
-        ensures { λ r. ⌜ r ≡ decide self event ⌝ }
-    {
-        let plan = self.plan;
-        let events = plan.events;
-        let found = self.find_order(event);
-        if found.ok {
-            let order = found.events;
-            let opened = found.opened;
-            return self.do_events(order, opened, found.len);
-        }
-        let mut attributes: u8 = 0;
-        if event < 16 {
-            let declared = events[event as usize];
-            attributes = declared.attributes;
-        }
-        if is_rejectable(attributes) {
-            return self.settle_as(Fate::Refused, event);
-        }
-        self.do_alone(event)
-    }
-
-    // The state after a hand-in that is taken. An event that is not delayable is decided at once; where nothing is held
-    // then, there is nothing to settle.
-    fn after_submit(self, event: u8) -> State
-        ensures { λ r. ⌜ r ≡ submit self event ⌝ }
+    // The state after a hand-in that is taken. An event that is not delayable is decided at once.
+    fn after_submit(self, event: u8) -> Course
+        ensures { λ r. ⌜ r ≡ courseOf (submit self event) ⌝ }
     {
         let plan = self.plan;
         let events = plan.events;
@@ -241,31 +245,81 @@ impl State {
             let standing = standings[event as usize];
             let fate = standing.fate;
             if !is_open(fate) {
-                return self;
+                return self.course();
             }
             let declared = events[event as usize];
             attributes = declared.attributes;
         }
-        let held = self.hold(event);
         if is_delayable(attributes) {
-            return held.settle();
+            return self.settle_with(event);
         }
-        let decided = held.decide(event);
-        if decided.has_held() {
-            return decided.settle();
-        }
-        decided
+        self.settle_decided(event)
     }
 
-    // The step's open events lapse, lowest first. Past the places stand blanks: open, and of step 0.
+    // An event that is not delayable is held and decided: its chosen order is done, else it is refused if it is rejectable,
+    // else done alone. Then the rest is settled; where nothing is held there is nothing to settle.
+    fn settle_decided(self, event: u8) -> Course
+        ensures { λ r. ⌜ r ≡ courseOf (settle (decide (hold self event) event)) ⌝ }
+    {
+        let held = self.hold(event);
+        let decided = held.decide(event);
+        if decided.has_held() {
+            return decided.settle_with(16);
+        }
+        decided.course()
+    }
+
+    // A held event that is not delayable: its chosen order, else refused if it is rejectable, else done alone.
+    fn decide(self, event: u8) -> State
+        ensures { λ r. ⌜ r ≡ decide self event ⌝ }
+    {
+        let plan = self.plan;
+        let events = plan.events;
+        let mut next = self;
+        let found = next.find_order(event);
+        if found.ok {
+            let standings = next.standings;
+            let history = next.history;
+            let order = found.events;
+            let opened = found.opened;
+            let written = do_events(
+                standings,
+                history,
+                next.history_len,
+                order,
+                opened,
+                found.len,
+            );
+            let fates = written.standings;
+            let lines = written.history;
+            next.standings = fates;
+            next.history = lines;
+            next.history_len = written.history_len;
+            return next;
+        }
+        let mut attributes: u8 = 0;
+        if event < 16 {
+            let declared = events[event as usize];
+            attributes = declared.attributes;
+        }
+        if is_rejectable(attributes) {
+            return next.settle_as(Fate::Refused, event);
+        }
+        next.do_alone(event)
+    }
+
+    // The step is closed and its open events lapse, lowest first. Past the places stand blanks: open, and of step 0.
     fn lapse_step(self, step: u8) -> State
-        ensures { λ r. ⌜ r ≡ lapse (eventCount (self .plan)) 0 self step ⌝ }
+        ensures { λ r. ⌜ r ≡ lapse (eventCount (self .plan)) 0 (shut self step) step ⌝ }
     {
         let plan = self.plan;
         let n = plan.event_count;
         let events = plan.events;
         let standings = self.standings;
         let mut next = self;
+        if step < 8 {
+            next.closed[step as usize] = true;
+        }
         let mut e: u8 = 0;
         while e < n {
             let mut is = 0 == step;
@@ -276,7 +330,17 @@ impl State {
                 is = is_open(fate) & (declared.step == step);
             }
             if is {
-                next = next.settle_as(Fate::Lapsed, e);
+                let lines = next.history_len;
+                if e < 16 {
+                    next.standings[e as usize] = Standing { fate: Fate::Lapsed };
+                }
+                if lines < 16 {
+                    next.history[lines as usize] = Entry {
+                        event: e,
+                        fate: Fate::Lapsed,
+                    };
+                    next.history_len = lines + 1;
+                }
             }
             e += 1;
         }
@@ -284,15 +348,14 @@ impl State {
     }
 
     // The state after a closing that is taken. Where nothing is held there is nothing to settle.
-    fn after_close(self, step: u8) -> State
-        ensures { λ r. ⌜ r ≡ closeStep self step ⌝ }
+    fn after_close(self, step: u8) -> Course
+        ensures { λ r. ⌜ r ≡ courseOf (closeStep self step) ⌝ }
     {
-        let shut = self.shut(step);
-        let lapsed = shut.lapse_step(step);
+        let lapsed = self.lapse_step(step);
         if lapsed.has_held() {
-            return lapsed.settle();
+            return lapsed.settle_with(16);
         }
-        lapsed
+        lapsed.course()
     }
 
     // Refuses the lowest held event, and settles.
@@ -332,12 +395,21 @@ impl State {
         next
     }
 
+    // The state after a move of the minute that is taken.
+    fn after_advance(self, minute: u32) -> Course
+        ensures { λ r. ⌜ r ≡ courseOf (advanceTo self minute) ⌝ }
+    {
+        let moved = self.set_minute(minute);
+        moved.settle_with(16)
+    }
+
     // The state after a winding up that is taken.
-    fn after_finish(self) -> State
-        ensures { λ r. ⌜ r ≡ finish self ⌝ }
+    fn after_finish(self) -> Course
+        ensures { λ r. ⌜ r ≡ courseOf (finish self) ⌝ }
     {
         let settled = self.settle();
-        settled.refuse_held()
+        let refused = settled.refuse_held();
+        refused.course()
     }
 
     // Has a step an event and is not closed? Past the places stand blanks, of step 0.

@@ -7,6 +7,8 @@ use members::set::common;
 use members::set::lowest_of;
 use members::set::with_if;
 use members::set::without;
+use members::times::Times;
+use members::times::times_of;
 use members::view::View;
 use members::view::view_after;
 use members::view::view_of;
@@ -19,6 +21,7 @@ ghost use Rattle.orders.specs.Stepwise.{stepwise};
 ghost use Rattle.scheduler.specs.State.{fateOf};
 ghost use Rattle.scheduler.specs.Rules.{stands};
 ghost use Rattle.scheduler.specs.Orders.{chosen, foundOrder};
+ghost use Rattle.scheduler.specs.Internal.Timing.{Timing};
 ghost use Rattle.scheduler.specs.Internal.Placed.{blankOrder, foundFrom};
 
 // What a search for an order finds: the order's events from the front, zeros after them, which of them were open when
@@ -39,7 +42,9 @@ impl State {
         let plan = self.plan;
         let rules = plan.rules;
         let broken = self.broken;
-        let members = close_set(rules, broken, plan.rule_count, view, view.able, event);
+        let times = self.times();
+        let able = common(view.able, times.timely);
+        let members = close_set(rules, broken, plan.rule_count, view, able, event);
         if members.ok {
             return self.find_among(view, members.set);
         }
@@ -57,6 +62,15 @@ impl State {
             return search(self, view, held, 0, 6);
         }
         search(self, view, members, 0, 6)
+    }
+
+    // The events that are in time, and those whose window is over: the same through a whole call.
+    pub(crate) fn times(self) -> Times
+        ensures { λ r. ⌜ Timing self r ⌝ }
+    {
+        let plan = self.plan;
+        let windows = plan.windows;
+        times_of(windows, self.minute)
     }
 
     // What a search asks of the state again and again, as sets.

@@ -1,7 +1,9 @@
 // Settling.
 use super::order::Found;
 use super::order::blank_order;
+use super::state::Course;
 use super::state::State;
+use super::state::do_events;
 use members::blocked::blocked_in;
 use members::closed::close_set;
 use members::lacking::spare;
@@ -10,14 +12,21 @@ use members::set::is_in;
 use members::set::lowest_of;
 use members::set::with_if;
 use members::set::without;
+use members::times::Times;
 use members::view::View;
 use plan::fate::Fate;
+use plan::fate::Standing;
+use plan::history::Entry;
+use plan::rule::RuleLine;
 ghost use mathlib.Core.Path.{_≡_};
+ghost use Rattle.plan.specs.Plans.{ruleCount};
 ghost use Rattle.members.specs.Sets.{inSet, orSixteen, Shows};
-ghost use Rattle.scheduler.specs.State.{fateOf};
+ghost use Rattle.scheduler.specs.Prelude.{State};
+ghost use Rattle.scheduler.specs.State.{fateOf, hold, courseOf};
 ghost use Rattle.scheduler.specs.Orders.{foundOrder};
 ghost use Rattle.scheduler.specs.Calls.{toRefuse, toDo, settle};
 ghost use Rattle.scheduler.specs.Internal.Hopeful.{Hopeful};
+ghost use Rattle.scheduler.specs.Internal.Timing.{Timing};
 
 // The set of all sixteen events.
 const EVERY_EVENT: u16 = 65535;
@@ -29,83 +38,110 @@ pub(crate) struct Turned {
 }
 
 impl State {
-    // Settling: turns until none is left. Each settles an event, and there are at most 16; where nothing is held there is
-    // none.
+    // Settling.
     pub(crate) fn settle(self) -> State
         ensures { λ r. ⌜ r ≡ settle self ⌝ }
     {
-        let mut view = self.view();
-        if lowest_of(view.held) == 16 {
-            return self;
-        }
+        let settled = self.settle_with(16);
+        self.with_course(settled)
+    }
+
+    // An event becomes held (16: none does), and the rest is settled: turns until none is left. Each settles an event, and
+    // there are at most 16; where nothing is held there is none.
+    pub(crate) fn settle_with(self, event: u8) -> Course
+        ensures { λ r. ⌜ r ≡ courseOf (settle (hold self event)) ⌝ }
+    {
         let mut next = self;
+        if event < 16 {
+            next.standings[event as usize] = Standing { fate: Fate::Held };
+        }
+        let mut view = next.view();
+        if lowest_of(view.held) == 16 {
+            return next.course();
+        }
+        let plan = next.plan;
+        let rules = plan.rules;
+        let broken = next.broken;
+        let times = next.times();
+        let count = plan.rule_count;
         let mut left: u8 = 16;
         while 0 < left {
-            let barred = next.find_barred(view);
+            let barred = find_barred(rules, broken, count, view, times);
             if barred < 16 {
-                next = next.settle_as(Fate::Refused, barred);
-            } else {
-                let found = next.find_held(view);
-                if !found.ok {
-                    return next;
+                let lines = next.history_len;
+                let fate = Fate::Refused;
+                next.standings[barred as usize] = Standing { fate };
+                if lines < 16 {
+                    next.history[lines as usize] = Entry {
+                        event: barred,
+                        fate,
+                    };
+                    next.history_len = lines + 1;
                 }
+            } else {
+                let found = next.find_held(rules, broken, view, times);
+                if !found.ok {
+                    return next.course();
+                }
+                let standings = next.standings;
+                let history = next.history;
                 let events = found.events;
                 let opened = found.opened;
-                next = next.do_events(events, opened, found.len);
+                let written = do_events(
+                    standings,
+                    history,
+                    next.history_len,
+                    events,
+                    opened,
+                    found.len,
+                );
+                let fates = written.standings;
+                let lines = written.history;
+                next.standings = fates;
+                next.history = lines;
+                next.history_len = written.history_len;
             }
             view = next.view();
             if lowest_of(view.held) == 16 {
-                return next;
+                return next.course();
             }
             left -= 1;
         }
-        next
-    }
-
-    // The lowest held event that is barred; 16 if there is none. Where nothing is done, refused or lapsed, no rule bars.
-    fn find_barred(self, view: View) -> u8
-        requires { ⌜ Shows (self .plan) (fateOf self) view ⌝ }
-        ensures { λ r. ⌜ r ≡ orSixteen (toRefuse self) ⌝ }
-    {
-        if (view.done == 0) & (view.gone == 0) {
-            return 16;
-        }
-        let plan = self.plan;
-        let rules = plan.rules;
-        let broken = self.broken;
-        let barred = blocked_in(rules, broken, plan.rule_count, view, 0);
-        lowest_of(common(view.held, barred))
+        next.course()
     }
 
     // The events at hand that are worth a search. Where several events are held and some event is missing, neither settled
     // nor at hand, one pass over the rules tells of those that are not.
-    fn find_hopeful(self, view: View) -> u16
-        requires { ⌜ Shows (self .plan) (fateOf self) view ⌝ }
+    fn find_hopeful(
+        self,
+        rules: [RuleLine; 16],
+        broken: [bool; 16],
+        view: View,
+        times: Times,
+    ) -> u16
+        requires { ⌜ ((self .plan .rules ≡ rules) × (self .broken ≡ broken) × Shows (self .plan) (fateOf self) view × Timing self times) ⌝ }
         ensures { λ r. ⌜ Hopeful self (inSet r) ⌝ }
     {
         let plan = self.plan;
+        let able = common(view.able, times.timely);
         let one = with_if(0, lowest_of(view.held), true);
-        let missing = without(EVERY_EVENT, view.able | view.done | view.gone);
+        let missing = without(EVERY_EVENT, able | view.done | view.gone);
         if (one == view.held) | (plan.event_count <= lowest_of(missing)) {
-            return view.able;
+            return able;
         }
-        let rules = plan.rules;
-        let broken = self.broken;
-        spare(rules, broken, plan.rule_count, view)
+        spare(rules, broken, plan.rule_count, view, able)
     }
 
     // The chosen order of the lowest held event that has one. An event that has none is in no order for another, so it
     // counts no more as able in this turn.
-    fn find_held(self, view: View) -> Found
-        requires { ⌜ Shows (self .plan) (fateOf self) view ⌝ }
+    fn find_held(self, rules: [RuleLine; 16], broken: [bool; 16], view: View, times: Times) -> Found
+        requires { ⌜ ((self .plan .rules ≡ rules) × (self .broken ≡ broken) × Shows (self .plan) (fateOf self) view × Timing self times) ⌝ }
         ensures { λ r. ⌜ r ≡ foundOrder self (toDo self) ⌝ }
     {
         let plan = self.plan;
-        let rules = plan.rules;
-        let broken = self.broken;
         let count = plan.rule_count;
         let n = plan.event_count;
-        let mut able = self.find_hopeful(view);
+        let mut able = self.find_hopeful(rules, broken, view, times);
         let mut e: u8 = 0;
         while e < n {
             if is_in(common(view.held, able), e) {
@@ -122,4 +158,16 @@ impl State {
         }
         blank_order(false, 0)
     }
+}
+
+// The lowest held event that is barred; 16 if there is none. Where nothing is done, refused or lapsed, no rule bars; and
+// none is barred by its window where none is over.
+fn find_barred(rules: [RuleLine; 16], broken: [bool; 16], count: u8, view: View, times: Times) -> u8
+    ensures { λ r. ⌜ ((s : State) → s .plan .rules ≡ rules → s .broken ≡ broken → ruleCount (s .plan) ≡ count → Shows (s .plan) (fateOf s) view → Timing s times → r ≡ orSixteen (toRefuse s)) ⌝ }
+{
+    if (view.done == 0) & (view.gone == 0) & (times.late == 0) {
+        return 16;
+    }
+    let barred = blocked_in(rules, broken, count, view, 0);
+    lowest_of(common(view.held, barred | times.late))
 }

@@ -1,4 +1,4 @@
-// The state of a plan under way, and its four writers.
+// The state of a plan under way, and its five writers.
 use plan::fate::Fate;
 use plan::fate::Standing;
 use plan::fate::done_as;
@@ -6,8 +6,8 @@ use plan::history::Entry;
 use plan::plan::Plan;
 ghost use mathlib.Core.Path.{_≡_};
 ghost use lib.ListN.{take};
-ghost use Rattle.scheduler.specs.State.{hold, settleAs, shut, breakRule};
-ghost use Rattle.scheduler.specs.Internal.Marked.{settleAll};
+ghost use Rattle.scheduler.specs.State.{hold, settleAs, breakRule, setMinute, courseOf, withCourse};
+ghost use Rattle.scheduler.specs.Internal.Written.{writeAll};
 
 // A plan and what has happened (5.4).
 pub struct State {
@@ -15,6 +15,24 @@ pub struct State {
     pub standings: [Standing; 16],
     pub broken: [bool; 16],
     pub closed: [bool; 8],
+    pub history: [Entry; 16],
+    pub history_len: u8,
+    pub minute: u32,
+}
+
+// What calls change of a state: all but the plan. Calls give this, so that no plan is copied for each.
+pub struct Course {
+    pub minute: u32,
+    pub standings: [Standing; 16],
+    pub broken: [bool; 16],
+    pub closed: [bool; 8],
+    pub history: [Entry; 16],
+    pub history_len: u8,
+}
+
+// What settling an event writes.
+pub(crate) struct Written {
+    pub standings: [Standing; 16],
     pub history: [Entry; 16],
     pub history_len: u8,
 }
@@ -55,39 +73,50 @@ impl State {
         next
     }
 
-    // The events of an order done one after the other, at most six: each is settled in place, forced if the search found it
-    // open and else done.
-    pub(crate) fn do_events(self, events: [u8; 6], opened: [bool; 6], len: u8) -> State
-        ensures { λ r. ⌜ r ≡ settleAll self (take len events) (take len opened) ⌝ }
+    // What calls change of it.
+    pub(crate) fn course(self) -> Course
+        ensures { λ r. ⌜ r ≡ courseOf self ⌝ }
     {
-        let n = if len < 6 { len } else { 6 };
-        let mut next = self;
-        let mut i: u8 = 0;
-        while i < n {
-            let event = events[i as usize];
-            let fate = done_as(opened[i as usize]);
-            let lines = next.history_len;
-            if event < 16 {
-                next.standings[event as usize] = Standing { fate };
-            }
-            if lines < 16 {
-                next.history[lines as usize] = Entry { event, fate };
-                next.history_len = lines + 1;
-            }
-            i += 1;
+        let standings = self.standings;
+        let broken = self.broken;
+        let closed = self.closed;
+        let history = self.history;
+        Course {
+            standings,
+            broken,
+            closed,
+            history,
+            history_len: self.history_len,
+            minute: self.minute,
         }
-        next
     }
 
-    // A step is closed.
-    pub(crate) fn shut(self, step: u8) -> State
-        ensures { λ r. ⌜ r ≡ shut self step ⌝ }
+    // The same plan, with what calls have changed.
+    pub fn with_course(self, course: Course) -> State
+        ensures { λ r. ⌜ r ≡ withCourse self course ⌝ }
+    {
+        let plan = self.plan;
+        let standings = course.standings;
+        let broken = course.broken;
+        let closed = course.closed;
+        let history = course.history;
+        State {
+            plan,
+            standings,
+            broken,
+            closed,
+            history,
+            history_len: course.history_len,
+            minute: course.minute,
+        }
+    }
+
+    // The minute is moved.
+    pub(crate) fn set_minute(self, minute: u32) -> State
+        ensures { λ r. ⌜ r ≡ setMinute self minute ⌝ }
     {
         let mut next = self;
-        if step < 8 {
-            next.closed[step as usize] = true;
-            return next;
-        }
+        next.minute = minute;
         next
     }
 
@@ -102,4 +131,39 @@ impl State {
         }
         next
     }
+}
+
+// The events of an order done one after the other, at most six: each is settled in place, forced if the search found it
+// open and else done.
+pub(crate) fn do_events(
+    standings: [Standing; 16],
+    history: [Entry; 16],
+    lines: u8,
+    events: [u8; 6],
+    opened: [bool; 6],
+    len: u8,
+) -> Written
+    ensures { λ r. ⌜ r ≡ writeAll (record { standings = standings; history = history; «history_len» = lines }) (take len events) (take len opened) ⌝ }
+{
+    let n = if len < 6 { len } else { 6 };
+    let mut next = Written {
+        standings,
+        history,
+        history_len: lines,
+    };
+    let mut i: u8 = 0;
+    while i < n {
+        let event = events[i as usize];
+        let fate = done_as(opened[i as usize]);
+        let at = next.history_len;
+        if event < 16 {
+            next.standings[event as usize] = Standing { fate };
+        }
+        if at < 16 {
+            next.history[at as usize] = Entry { event, fate };
+            next.history_len = at + 1;
+        }
+        i += 1;
+    }
+    next
 }

@@ -35,6 +35,7 @@ withEvent p e = record {
   «event_count» = eventCount p + 1;
   rules = p .rules;
   «rule_count» = ruleCount p;
+  windows = p .windows;
 }
 
 abbrev pub withRule : Plan → RuleLine → Plan
@@ -43,30 +44,32 @@ withRule p l = record {
   «event_count» = eventCount p;
   rules = set (p .rules) (ruleCount p) l;
   «rule_count» = ruleCount p + 1;
+  windows = p .windows;
 }
 
 -- the machine value of a plan, by its arrays' and its numbers'
-abbrev pub planVal : List Val → ℕ → List Val → ℕ → Val
-planVal es n ls m = vstruct (vcons (arrayVal es) (vcons (vint w8 n) (vcons (arrayVal ls) (vcons (vint w8 m) vnil))))
+abbrev pub planVal : List Val → ℕ → List Val → ℕ → List Val → Val
+planVal es n ls m ws =
+    vstruct (vcons (vint w8 n) (vcons (arrayVal ws) (vcons (arrayVal es) (vcons (arrayVal ls) (vcons (vint w8 m) vnil)))))
 
 module _ (p : Plan) (is : IsPlan p) where
   -- a plan's arrays have 16 places
   pub events-long : length (map E′.lowered (p .events)) ≡ 16
-  events-long = length-map (p .events) E′.lowered ∙ sym (length-map (p .events) (E.the-field .into)) ∙ is .1 .1 .0 .1 .0 .1
+  events-long = length-map (p .events) E′.lowered ∙ sym (length-map (p .events) (E.the-field .into)) ∙ is .1 .1 .1 .1 .0 .1 .0 .1
 
   pub rules-long : length (map L′.lowered (p .rules)) ≡ 16
-  rules-long = length-map (p .rules) L′.lowered ∙ sym (length-map (p .rules) (L.the-field .into)) ∙ is .1 .1 .1 .1 .0 .1 .0 .1
+  rules-long = length-map (p .rules) L′.lowered ∙ sym (length-map (p .rules) (L.the-field .into)) ∙ is .1 .1 .1 .1 .1 .0 .1 .0 .1
 
   module _ (e : Event) (isE : IsEvent e) (fits : eventCount p + 1 < 2 ^ 8) where
     made-event : Is P.the-row (withEvent p e)
-        (planVal (set (is .1 .1 .0 .0) (eventCount p) (E′.lowered e)) (eventCount p + 1) (is .1 .1 .1 .1 .0 .0) (ruleCount p) ∷ [])
+        (planVal (set (is .1 .1 .1 .1 .0 .0) (eventCount p) (E′.lowered e)) (eventCount p + 1) (is .1 .1 .1 .1 .1 .0 .0) (ruleCount p) (is .1 .1 .1 .0 .0) ∷ [])
     made-event = (
-      (arrayVal (set (is .1 .1 .0 .0) (eventCount p) (E′.lowered e)) ∷ [], (vint w8 (eventCount p + 1) ∷ [], (arrayVal (is .1 .1 .1 .1 .0 .0) ∷ [], (vint w8 (ruleCount p) ∷ [], tt)))),
+      (vint w8 (eventCount p + 1) ∷ [], (arrayVal (is .1 .1 .1 .0 .0) ∷ [], (arrayVal (set (is .1 .1 .1 .1 .0 .0) (eventCount p) (E′.lowered e)) ∷ [], (arrayVal (is .1 .1 .1 .1 .1 .0 .0) ∷ [], (vint w8 (ruleCount p) ∷ [], tt))))),
       (
         refl,
         (
-          array-set E.the-field e (E′.lowered e) isE 16 (p .events) _ (eventCount p) (is .1 .1 .0),
-          ((refl, fits), ((is .1 .1 .1 .1 .0 .0, ((refl, is .1 .1 .1 .1 .0 .1 .0 .1), is .1 .1 .1 .1 .0 .1 .1)), ((refl, is .1 .1 .1 .1 .1 .0 .1), tt))),
+          (refl, fits),
+          ((is .1 .1 .1 .0 .0, ((refl, is .1 .1 .1 .0 .1 .0 .1), is .1 .1 .1 .0 .1 .1)), (array-set E.the-field e (E′.lowered e) isE 16 (p .events) _ (eventCount p) (is .1 .1 .1 .1 .0), ((is .1 .1 .1 .1 .1 .0 .0, ((refl, is .1 .1 .1 .1 .1 .0 .1 .0 .1), is .1 .1 .1 .1 .1 .0 .1 .1)), ((refl, is .1 .1 .1 .1 .1 .1 .0 .1), tt)))),
         ),
       ),
     )
@@ -76,14 +79,14 @@ module _ (p : Plan) (is : IsPlan p) where
 
   module _ (l : RuleLine) (isL : IsLine l) (fits : ruleCount p + 1 < 2 ^ 8) where
     made-rule : Is P.the-row (withRule p l)
-        (planVal (is .1 .1 .0 .0) (eventCount p) (set (is .1 .1 .1 .1 .0 .0) (ruleCount p) (L′.lowered l)) (ruleCount p + 1) ∷ [])
+        (planVal (is .1 .1 .1 .1 .0 .0) (eventCount p) (set (is .1 .1 .1 .1 .1 .0 .0) (ruleCount p) (L′.lowered l)) (ruleCount p + 1) (is .1 .1 .1 .0 .0) ∷ [])
     made-rule = (
-      (arrayVal (is .1 .1 .0 .0) ∷ [], (vint w8 (eventCount p) ∷ [], (arrayVal (set (is .1 .1 .1 .1 .0 .0) (ruleCount p) (L′.lowered l)) ∷ [], (vint w8 (ruleCount p + 1) ∷ [], tt)))),
+      (vint w8 (eventCount p) ∷ [], (arrayVal (is .1 .1 .1 .0 .0) ∷ [], (arrayVal (is .1 .1 .1 .1 .0 .0) ∷ [], (arrayVal (set (is .1 .1 .1 .1 .1 .0 .0) (ruleCount p) (L′.lowered l)) ∷ [], (vint w8 (ruleCount p + 1) ∷ [], tt))))),
       (
         refl,
         (
-          (is .1 .1 .0 .0, ((refl, is .1 .1 .0 .1 .0 .1), is .1 .1 .0 .1 .1)),
-          ((refl, is .1 .1 .1 .0 .1), (array-set L.the-field l (L′.lowered l) isL 16 (p .rules) _ (ruleCount p) (is .1 .1 .1 .1 .0), ((refl, fits), tt))),
+          (refl, is .1 .1 .0 .1),
+          ((is .1 .1 .1 .0 .0, ((refl, is .1 .1 .1 .0 .1 .0 .1), is .1 .1 .1 .0 .1 .1)), ((is .1 .1 .1 .1 .0 .0, ((refl, is .1 .1 .1 .1 .0 .1 .0 .1), is .1 .1 .1 .1 .0 .1 .1)), (array-set L.the-field l (L′.lowered l) isL 16 (p .rules) _ (ruleCount p) (is .1 .1 .1 .1 .1 .0), ((refl, fits), tt)))),
         ),
       ),
     )

@@ -11,22 +11,23 @@ use Rattle.sheet.specs.Types.{Plan, Record}
 pub record Room (p : Plan) (k : ℕ) : Type 0 where
   pub one : k ≡ 1 → eventCount p < 16
   pub four : k ≡ 6 → eventCount p + 4 ≤ 16
-  pub rule : (k ≡ 1 → ⊥) → (k ≡ 6 → ⊥) → ruleCount p < 16
+  pub rule : (k ≡ 1 → ⊥) → k < 6 → ruleCount p < 16
+  pub high : k ≤ 7
 
--- a kind that is neither 1, 5 nor 6 declares a rule
-rule-kind : (k : ℕ) → (k ≡ 0 → ⊥) → k ≤ 6 → (k ≡ 1 → ⊥) → (k ≡ 5 → ⊥) → (k ≡ 6 → ⊥) → newRules k ≡ 1
-rule-kind zero l h a b d = absurd (l refl)
-rule-kind (suc zero) l h a b d = absurd (a refl)
-rule-kind (suc (suc zero)) l h a b d = refl
-rule-kind (suc (suc (suc zero))) l h a b d = refl
-rule-kind (suc (suc (suc (suc zero)))) l h a b d = refl
-rule-kind (suc (suc (suc (suc (suc zero))))) l h a b d = absurd (b refl)
-rule-kind (suc (suc (suc (suc (suc (suc zero)))))) l h a b d = absurd (d refl)
-rule-kind (suc (suc (suc (suc (suc (suc (suc k))))))) l h a b d = absurd (omega arith)
+-- a kind below 6 that is neither 1 nor 5 declares a rule
+rule-kind : (k : ℕ) → (k ≡ 0 → ⊥) → k < 6 → (k ≡ 1 → ⊥) → (k ≡ 5 → ⊥) → newRules k ≡ 1
+rule-kind zero l h a b = absurd (l refl)
+rule-kind (suc zero) l h a b = absurd (a refl)
+rule-kind (suc (suc zero)) l h a b = refl
+rule-kind (suc (suc (suc zero))) l h a b = refl
+rule-kind (suc (suc (suc (suc zero)))) l h a b = refl
+rule-kind (suc (suc (suc (suc (suc zero))))) l h a b = absurd (b refl)
+rule-kind (suc (suc (suc (suc (suc (suc k)))))) l h a b = absurd (omega arith)
 
 pub room : {p : Plan} {len at : ℕ} {r : Record} → Faultless p len at r → (r .kind ≡ 5 → ⊥) → Room p (r .kind)
 room {p} {len} {at} {r} q five = record {
   one = λ e. omega (arith, ap newEvents e, q .events);
   four = λ e. omega (arith, ap newEvents e, q .events);
-  rule = λ a b. omega (arith, rule-kind (r .kind) (q .low) (q .high) a five b, q .rules);
+  rule = λ a b. omega (arith, rule-kind (r .kind) (q .low) b a five, q .rules);
+  high = q .high;
 }

@@ -6,7 +6,7 @@ pub use Rattle.plan.specs.declared.rule.RuleLine.{RuleLine}
 pub use Rattle.plan.specs.declared.plan.Plan.{Plan}
 pub use Rattle.plan.specs.declared.record.Record.{Record}
 pub use Rattle.plan.specs.declared.answer.SheetFault.{SheetFault}
-pub use Rattle.plan.specs.declared.answer.SheetFault.the-variants.{Cut, BadKind, Full, BadStep, BadAttributes, BadNames, Unenforceable, Extra}
+pub use Rattle.plan.specs.declared.answer.SheetFault.the-variants.{Cut, BadKind, Full, BadStep, BadAttributes, BadNames, Unenforceable, Extra, BadWindow}
 pub use Rattle.plan.specs.declared.answer.Verdict.{Verdict}
 pub use Rattle.plan.specs.declared.answer.Verdict.the-variants.{Admitted, Faulty}
 pub use Rattle.scheduler.specs.declared.state.State.{State}

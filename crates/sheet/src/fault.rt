@@ -1,12 +1,14 @@
 // The table's rows for a record: its first fault, if it has one.
 use super::kind::EVENT;
 use super::kind::FOUR_EVENTS;
+use super::kind::WINDOW;
 use super::kind::body_length;
 use super::kind::new_events;
 use super::kind::new_rules;
 use super::kind::rule_of;
 use plan::answer::SheetFault;
 use plan::event::are_bad;
+use plan::event::is_delayable;
 use plan::plan::Plan;
 use plan::record::Record;
 use plan::rule::Rule;
@@ -14,6 +16,7 @@ use plan::rule::are_named;
 use plan::rule::is_enforceable;
 ghost use mathlib.Core.Path.{_≡_};
 ghost use Rattle.plan.specs.Records.{recordFault};
+ghost use Rattle.plan.specs.Rules.{badWindow};
 ghost use Rattle.sheet.specs.Internal.Progress.{isFull, ruleFault, bodyFault, checkOf};
 
 // What a record's check says: fine, or its first fault.
@@ -30,7 +33,7 @@ pub(crate) fn check_record(plan: Plan, len: usize, at: usize, rec: Record) -> Ch
     if len <= at {
         return Check::Bad(SheetFault::Cut);
     }
-    if (kind == 0) | (6 < kind) {
+    if (kind == 0) | (7 < kind) {
         return Check::Bad(SheetFault::BadKind);
     }
     let size = 1 + body_length(kind) as usize;
@@ -57,7 +60,29 @@ fn check_body(plan: Plan, rec: Record) -> Check
     if new_rules(kind) == 1 {
         return check_rule(plan, rule_of(rec));
     }
+    if kind == WINDOW {
+        if is_bad_window(plan, rec.x, rec.from, rec.until) {
+            return Check::Bad(SheetFault::BadWindow);
+        }
+    }
     Check::Fine
+}
+
+// Row 15: a window that the sheet may not give the event.
+fn is_bad_window(plan: Plan, event: u8, from: u32, until: u32) -> bool
+    ensures { λ r. ⌜ r ≡ badWindow plan event from until ⌝ }
+{
+    let events = plan.events;
+    let windows = plan.windows;
+    if event < 16 {
+        let declared = events[event as usize];
+        let window = windows[event as usize];
+        return (plan.event_count <= event)
+            | !is_delayable(declared.attributes)
+            | !(window.until == 0)
+            | (until <= from);
+    }
+    true
 }
 
 // Rows 6 and 7: the rule's names, and whether it can be enforced.

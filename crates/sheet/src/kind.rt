@@ -15,6 +15,8 @@ pub(crate) const END: u8 = 5;
 
 pub(crate) const FOUR_EVENTS: u8 = 6;
 
+pub(crate) const WINDOW: u8 = 7;
+
 // By kind: the length of the body, and how many events and rules it declares. An array in place of the arms would be
 // written out anew at every call.
 pub(crate) fn body_length(kind: u8) -> u8
@@ -26,6 +28,7 @@ pub(crate) fn body_length(kind: u8) -> u8
         3 => 2,
         4 => 3,
         6 => 1,
+        7 => 9,
         _ => 0,
     }
 }

@@ -1,5 +1,5 @@
 // Reading a sheet record after record, until a fault or its end.
-use super::declare::add_events;
+use super::declare::add_more;
 use super::declare::event_of;
 use super::declare::first_state;
 use super::declare::line_of;
@@ -46,8 +46,8 @@ pub fn read_sheet(sheet: &[u8]) -> Reading
             plan.events[n as usize] = event_of(rec);
             plan.event_count = n + 1;
         } else {
-            if rec.kind == FOUR_EVENTS {
-                plan = add_events(plan, rec.x);
+            if FOUR_EVENTS <= rec.kind {
+                plan = add_more(plan, rec);
             } else {
                 let m = plan.rule_count;
                 plan.rules[m as usize] = line_of(rec);

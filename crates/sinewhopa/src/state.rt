@@ -13,7 +13,7 @@ use scheduler::reply::Outcome;
 ghost use mathlib.Core.Path.{_≡_};
 ghost use Prim.Native.Nat.{_≤_};
 ghost use lib.ListN.{length};
-ghost use Rattle.scheduler.specs.Prelude.{Submit, Close, Finish};
+ghost use Rattle.scheduler.specs.Prelude.{Submit, Close, Finish, Advance};
 ghost use Rattle.scheduler.specs.Sheet.{readSheet};
 ghost use Rattle.image.specs.Layout.{imageOf};
 ghost use Rattle.image.specs.Calls.{numberOn, imageAfter, checkOn, verdictNumber, verdictOffset, reportOn};
@@ -60,6 +60,15 @@ pub extern "C" fn sinewhopa_finish(state: &mut [u8; 384]) -> u8
     ensures bytes { λ _. ⌜ now (state .exit) ≡ imageAfter (now (state .entry)) Finish ⌝ }
 {
     make_call(state, Call::Finish)
+}
+
+// Moves the minute forward, and settles; the same minute is allowed, one below it is answered with 16.
+#[no_mangle]
+pub extern "C" fn sinewhopa_advance(state: &mut [u8; 384], minute: u32) -> u8
+    ensures number { λ r. ⌜ r ≡ numberOn (now (state .entry)) (Advance minute) ⌝ }
+    ensures bytes { λ _. ⌜ now (state .exit) ≡ imageAfter (now (state .entry)) (Advance minute) ⌝ }
+{
+    make_call(state, Call::Advance(minute))
 }
 
 // 0 where the bytes are an image of a state that hangs together, else 12.

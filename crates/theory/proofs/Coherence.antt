@@ -12,18 +12,19 @@ use mathlib.Core.Path.{_≡_, refl, sym, _∙_, ap, subst}
 use lib.Dec.{eqb, ltb, leb}
 use lib.ListN.{length}
 use lib.Seq.{length-take-le}
-use Rattle.theory.proofs.Types.{Fate, Open, Held, Done, Refused, Lapsed, Forced, Rule, Order, Need, Conditional, Plan, Entry, State, CallFault, Incoherent, TurnedDown, Reply, Call, Submit, Close, Finish}
+use Rattle.theory.proofs.Types.{Fate, Open, Held, Done, Refused, Lapsed, Forced, Rule, Order, Need, Conditional, Plan, Entry, State, CallFault, Incoherent, TurnedDown, Reply, Call, Submit, Close, Finish, Advance}
 use Rattle.plan.specs.Base.{allBelow, oneIf, countBelow}
 use Rattle.plan.specs.Plans.{eventCount, ruleCount, stepOf, ruleAt, delayable}
 use Rattle.scheduler.specs.State.{fateOf, brokenAt, closedAt, lineCount, lines, Sized}
 use Rattle.plan.specs.Fates.{isOpen, isHeld, isDone, isGone, isSettled}
-use Rattle.plan.specs.Rules.{soundEvent, soundRule, owes}
+use Rattle.plan.specs.Rules.{soundEvent, soundRule, soundWindows, owes}
 use Rattle.plan.specs.Histories.{fateIf, fatesIn, doneIn, doneInTurn, holds, declaredOnly, listedAs}
 use Rattle.plan.specs.Faults.{isTurnedDown}
 use Rattle.scheduler.specs.Coherent.{coherentEvent, coherentRule, coherent}
 use Rattle.scheduler.specs.Answers.{callRows, callFault, accept, call}
 use Rattle.scheduler.specs.Lists.{scheduler, after}
 use Rattle.plan.proofs.Tests.{count-zero, clash, either, and-left, and-right, and-not, all-at, count-more}
+use Rattle.plan.proofs.Windows.{windows-sound}
 use Rattle.plan.proofs.Tables.{none-applies, no-row}
 use Rattle.plan.proofs.Lines.{fates-same}
 use Rattle.scheduler.proofs.Branches.{submit-same, call-fault, call-accept}
@@ -31,7 +32,7 @@ use Rattle.theory.proofs.Conjunctions.{and-three, and-four}
 use Rattle.theory.proofs.SoundPlans.{Sound}
 use Rattle.theory.proofs.HistoryInvariant.{HistoryListed, same-events}
 use Rattle.theory.proofs.RuleInvariant.{Quiet, unpaid, done-listed, need-named, conditional-named}
-use Rattle.theory.proofs.Invariant.{Invariant, close-keeps, finish-keeps}
+use Rattle.theory.proofs.Invariant.{Invariant, close-keeps, finish-keeps, move-keeps}
 use Rattle.theory.proofs.Submission.{submit-keeps}
 use Rattle.theory.proofs.InvariantCoherent.{invariant-coherent}
 
@@ -115,7 +116,11 @@ module _ (s : State) (h : coherent s ≡ true) where
 
   parts : (counts ≡ true) × (events ≡ true) × (rules ≡ true)
   unfolding coherent
-  parts = and-three counts events rules h
+  parts = and-three counts events rules (and-left (counts && events && rules) (soundWindows p) h)
+
+  pub coherent-windows : soundWindows p ≡ true
+  unfolding coherent
+  coherent-windows = and-right (counts && events && rules) (soundWindows p) h
 
   few : (eventCount p ≤ 16) × (ruleCount p ≤ 16) × (lineCount s ≤ 16) × (declaredOnly (lines s) (eventCount p) ≡ true)
   few =
@@ -169,6 +174,7 @@ module _ (s : State) (h : coherent s ≡ true) where
     few-rules = few .1;
     event = λ e l. event-passes e l .0;
     rule = λ i l. rule-passes i l .0;
+    window = λ e l. windows-sound p coherent-windows e;
   }
 
   -- with the arrays' lengths the state is under the invariant
@@ -258,6 +264,7 @@ accept-keeps {p} {s} sd k (Submit e) h = elim (either (isOpen (fateOf s e))) [
 ]
 accept-keeps sd k (Close i) h = close-keeps sd k i .invariant
 accept-keeps sd k Finish h = finish-keeps sd k .settled .invariant
+accept-keeps sd k (Advance m) h = move-keeps sd k m .invariant
 
 pub call-keeps : {p : Plan} {s : State} → Sound p → Invariant p s → (c : Call) → Invariant p (call s c .state)
 call-keeps {p} {s} sd k c = by-fault s c (Invariant p) k (accept-keeps sd k c)
@@ -292,6 +299,7 @@ unfolding accept
 accept-taken s (Submit e) = refl
 accept-taken s (Close k) = refl
 accept-taken s Finish = refl
+accept-taken s (Advance m) = refl
 
 pub call-taken : (s : State) (c : Call) → callFault s c ≡ none → isTurnedDown (call s c .answer) ≡ false
 call-taken s c h = ap (λ (r : Reply). isTurnedDown (r .answer)) (call-accept s c h) ∙ accept-taken s c

@@ -2,7 +2,7 @@
 use Prim.Native.Nat.{ℕ, zero, suc, _≤_, _<_}
 use native.Mathlib.Omega.{arith}
 use native.Mathlib.Decide.{ℕ-discrete}
-use borrow.Author.Tests.{eq-eqb, ne-eqb, eqb-true, ltb-true, ltb-false, le-leb, lt-leb, not-true, not-false}
+use borrow.Author.Tests.{eq-eqb, ne-eqb, eqb-true, ltb-true, ltb-false, lt-ltb, le-ltb, leb-true, leb-false, le-leb, lt-leb, not-true, not-false}
 use mathlib.Core.Bool.{Bool, true, false, not, _&&_, _||_, and-false}
 use mathlib.Core.List.{List, [], _∷_, _++_, append-nil}
 use mathlib.Core.Logic.{_≢_, inl, inr}
@@ -11,7 +11,7 @@ use mathlib.Core.Path.{_≡_, refl, sym, _∙_, ap, subst}
 use lib.Dec.{eqb}
 use lib.ListN.{length, length-replicate}
 use Rattle.theory.proofs.Types.{Fate, Open, Held, Done, Refused, Lapsed, Forced, Rule, Order, Need, Conditional, Plan}
-use Rattle.theory.proofs.Types.{Standing, Entry, State, CallFault, Unknown, AlreadyClosed, NotClosed, Reply, Call, Submit, Close, Finish}
+use Rattle.theory.proofs.Types.{Standing, Entry, State, CallFault, Unknown, AlreadyClosed, NotClosed, Backward, Reply, Call, Submit, Close, Finish, Advance}
 use Rattle.plan.specs.Base.{anyBelow, allBelow, among, thoseBelow}
 use Rattle.plan.specs.Plans.{eventCount, ruleCount, stepOf, ruleAt, hasEvent}
 use Rattle.scheduler.specs.State.{firstState, fateOf, brokenAt, closedAt, lines, hold, shut, settleAs, Sized}
@@ -20,27 +20,28 @@ use Rattle.plan.specs.Histories.{blankEntry, fateIf, fatesIn, doneInTurn, holds
 use Rattle.plan.specs.Rules.{triggered, owes}
 use Rattle.scheduler.specs.Orders.{Viable, hasViable}
 use Rattle.scheduler.specs.Rules.{strains}
-use Rattle.scheduler.specs.Calls.{doAlone, submit, closeStep, finish}
+use Rattle.scheduler.specs.Calls.{doAlone, submit, closeStep, finish, advanceTo}
 use Rattle.plan.specs.Faults.{firstFault, isTurnedDown}
 use Rattle.scheduler.specs.Coherent.{coherent}
 use Rattle.scheduler.specs.Answers.{unclosedAt, callFault, accept, call}
 use Rattle.scheduler.specs.Sheet.{readSheet, admitted}
 use Rattle.scheduler.specs.Lists.{after, scheduler}
-use Rattle.scheduler.specs.Demand.{seen, Observed, nothingYet, submits, closes, anyCall, wasSubmitted, wasClosed, wasFinished, waitsAs, stateOf, accepted}
+use Rattle.scheduler.specs.Demand.{seen, Observed, nothingYet, submits, closes, anyCall, wasSubmitted, wasClosed, wasFinished, minuteAfter, waitsAs, stateOf, accepted}
 use Rattle.scheduler.specs.Demand.{startsDone, doneAlone, newlyRecorded, shows, onlyHistory, observe, observeAll, broken, unbreakable, Holds, Extends, Grows, Keeps}
 use Rattle.plan.proofs.Tests.{clash, either, or-either, count-zero, or-both, and-left, and-right, any-none, any-some, any-found, all-at}
 use Rattle.plan.proofs.Arrays.{get-blank, read-blank}
 use Rattle.plan.proofs.Fates.{open-is}
-use Rattle.scheduler.proofs.Laws.{fate-hold-same, fate-hold-other, closed-hold, broken-hold, lines-hold, broken-settle, fate-shut, broken-shut, lines-shut, closed-shut-same, closed-shut-other}
+use Rattle.scheduler.proofs.Laws.{fate-hold-same, fate-hold-other, closed-hold, broken-hold, lines-hold, broken-settle, fate-shut, broken-shut, lines-shut, closed-shut-same, closed-shut-other, fate-minute, broken-minute, closed-minute, lines-minute}
 use Rattle.scheduler.proofs.Branches.{submit-same, call-fault, call-accept}
 use Rattle.theory.proofs.SoundPlans.{Sound, step-low}
 use Rattle.theory.proofs.SheetPlans.{sheet-first, sheet-sound}
 use Rattle.theory.proofs.HistoryInvariant.{Shape, HistoryListed, BlankBeyond, same-events, shape-hold, beyond-hold}
 use Rattle.theory.proofs.RuleInvariant.{SameToRules, Strict, strict-same, covered-same, unpaid}
-use Rattle.theory.proofs.Invariant.{FatesLater, Invariant, Resting, rules-shut, beyond-shut, close-keeps, finish-keeps}
+use Rattle.theory.proofs.Invariant.{FatesLater, Invariant, Resting, rules-shut, beyond-shut, rules-minute, beyond-minute, close-keeps, finish-keeps, move-keeps}
 use Rattle.theory.proofs.Submission.{rules-hold, Recorded, alone-recorded, Manner, ordered, waited, alone, Submitted, submit-keeps}
 use Rattle.theory.proofs.InvariantCoherent.{rule-holds, invariant-coherent}
 use Rattle.theory.proofs.Coherence.{call-taken, fault-answer}
+use Rattle.theory.proofs.Minutes.{minute-submit, minute-close, minute-finish, minute-move}
 use Rattle.theory.proofs.Observation.{Agrees, fates-observed, fate-observed, shown, alone-new, same-test, or-in, among-append, those-in, those-only}
 
 -- the invariant of a list: what is observed so far, and the state
@@ -105,7 +106,7 @@ module _ (p : Plan) (sd : Sound p) where
   }
 
   pub at-first : ListInvariant p nothingYet (firstState p)
-  unfolding among anyCall
+  unfolding among anyCall minuteAfter
   at-first = record {
     invariant = first-invariant;
     beyond = record { unused = λ e ge. all-open p e; blank = λ i ge. get-blank 16 blankEntry i };
@@ -120,6 +121,7 @@ module _ (p : Plan) (sd : Sound p) where
       waits = λ e u. all-open p e;
       closed = λ k l. read-blank 8 false k;
       recorded = λ i l. unbroken i;
+      minute = refl;
     };
     finished = λ w. absurd (clash w refl);
   }
@@ -161,12 +163,13 @@ at-kept k = record {
     waits = k .agrees .waits;
     closed = k .agrees .closed;
     recorded = k .agrees .recorded;
+    minute = k .agrees .minute;
   };
   finished = k .finished;
 }
 
 -- the state after an accepted call, and its history
-record Step (p : Plan) (o : Observed) (s t : State) : Type 0 where
+pub record Step (p : Plan) (o : Observed) (s t : State) : Type 0 where
   pub at : ListInvariant p o t
   pub extends : Extends (lines s) (lines t)
 
@@ -210,7 +213,7 @@ module _ {p : Plan} {o : Observed} {s : State} (sd : Sound p) (k : ListInvariant
   ]
 
   at-close : (j : ℕ) → j < 8 → Step p (shows p o (Close j) (lines (closeStep s j))) s (closeStep s j)
-  unfolding anyCall
+  unfolding anyCall minuteAfter
   at-close j l =
       let z = close-keeps sd (k .invariant) j in
       let f : FatesLater s (closeStep s j) = λ e. elim (z .later .fates e) [
@@ -228,10 +231,38 @@ module _ {p : Plan} {o : Observed} {s : State} (sd : Sound p) (k : ListInvariant
             waits = waits-later (closeStep s j) f;
             closed = λ i m. z .later .same-closed i ∙ shut-closed j l i m;
             recorded = λ i m. z .later .same-broken i ∙ broken-shut s j i ∙ k .agrees .recorded i m;
+            minute = minute-close s (sh .sized) j ∙ k .agrees .minute;
           };
           finished = finished-later (closeStep s j) f;
         };
         extends = (z .later .new, z .later .lines-new ∙ ap (λ h. h ++ z .later .new) (lines-shut s j));
+      }
+
+  -- moving the minute
+  at-move : (n : ℕ) → Step p (shows p o (Advance n) (lines (advanceTo s n))) s (advanceTo s n)
+  unfolding anyCall minuteAfter
+  at-move n =
+      let z = move-keeps sd (k .invariant) n in
+      let f : FatesLater s (advanceTo s n) = λ e. elim (z .later .fates e) [
+        | inl y ↦ inl y
+        | inr y ↦ inr (y ∙ fate-minute s n e)
+      ] in
+      record {
+        at = record {
+          invariant = z .invariant;
+          beyond = z .later .beyond (beyond-minute n (k .beyond));
+          strict = z .later .strict (strict-same (rules-minute s n) (k .strict));
+          rest = z .rest;
+          agrees = record {
+            history = refl;
+            waits = waits-later (advanceTo s n) f;
+            closed = λ i m. z .later .same-closed i ∙ closed-minute s n i ∙ k .agrees .closed i m;
+            recorded = λ i m. z .later .same-broken i ∙ broken-minute s n i ∙ k .agrees .recorded i m;
+            minute = minute-move s (sh .sized) n;
+          };
+          finished = finished-later (advanceTo s n) f;
+        };
+        extends = (z .later .new, z .later .lines-new ∙ ap (λ h. h ++ z .later .new) (lines-minute s n));
       }
 
   -- step j has no event, or is closed
@@ -253,7 +284,7 @@ module _ {p : Plan} {o : Observed} {s : State} (sd : Sound p) (k : ListInvariant
       any-some (eventCount p) (λ j. eqb (stepOf p j) (stepOf p e)) e l (eq-eqb (stepOf p e) (stepOf p e) refl)
 
   at-finish : accepted p o Finish ≡ true → Step p (shows p o Finish (lines (finish s))) s (finish s)
-  unfolding accepted anyCall
+  unfolding accepted anyCall minuteAfter
   at-finish ok =
       let z = finish-keeps sd (k .invariant) in
       let f = z .settled .later in
@@ -268,6 +299,7 @@ module _ {p : Plan} {o : Observed} {s : State} (sd : Sound p) (k : ListInvariant
             waits = waits-later (finish s) (f .fates);
             closed = λ i m. f .same-closed i ∙ k .agrees .closed i m;
             recorded = λ i m. f .same-broken i ∙ k .agrees .recorded i m;
+            minute = minute-finish s (sh .sized) ∙ k .agrees .minute;
           };
           finished = λ w e l.
               let closed : closedAt (finish s) (stepOf p e) ≡ true =
@@ -300,7 +332,7 @@ module _ {p : Plan} {o : Observed} {s : State} (sd : Sound p) (k : ListInvariant
 
   -- an event that is not open: nothing changes
   at-same : (e : ℕ) → isOpen (fateOf s e) ≡ false → Step p (shows p o (Submit e) (lines s)) s s
-  unfolding anyCall
+  unfolding anyCall minuteAfter
   at-same e q =
       let not-alone : doneAlone p o e (lines s) ≡ false =
       ap (doneAlone p o e) (sym (append-nil (lines s)))
@@ -319,6 +351,7 @@ module _ {p : Plan} {o : Observed} {s : State} (sd : Sound p) (k : ListInvariant
                 (λ r. is-held (fateOf s j) (ap (λ i. isOpen (fateOf s i)) r ∙ q) u) (λ ne. k .agrees .waits j u);
             closed = k .agrees .closed;
             recorded = λ i l. k .agrees .recorded i l ∙ ap (λ n. among i (n ++ o .recorded)) (sym none-new);
+            minute = k .agrees .minute;
           };
           finished = k .finished;
         };
@@ -400,7 +433,7 @@ module _ {p : Plan} {o : Observed} {s : State} (sd : Sound p) (k : ListInvariant
         (sym (recorded-yes p o e (lines (submit s e)) (alone-after ∙ rw (h, d))))
 
     at-submit : Step p (shows p o (Submit e) (lines (submit s e))) s (submit s e)
-    unfolding anyCall
+    unfolding anyCall minuteAfter
     at-submit = record {
       at = record {
         invariant = z .invariant;
@@ -412,6 +445,7 @@ module _ {p : Plan} {o : Observed} {s : State} (sd : Sound p) (k : ListInvariant
           waits = waits-after;
           closed = λ j l. z .same-closed j ∙ closed-hold s e j ∙ k .agrees .closed j l;
           recorded = by-manner (z .manner);
+          minute = minute-submit s (sh .sized) e (omega (arith, sd .few-events)) ∙ k .agrees .minute;
         };
         finished = λ w. absurd (clash (k .finished w e lt) (ap isSettled (open-is (fateOf s e) q)));
       };
@@ -446,6 +480,7 @@ module _ {p : Plan} {o : Observed} {s : State} (sd : Sound p) (k : ListInvariant
       let b = not-true (wasClosed o j) (and-right (hasEvent p j) (not (wasClosed o j)) h) in
       rw (coh, hasEvent-same j, a, k .agrees .closed j (step-bound j a), b)
   accepted-fault Finish h = rw (coh, any-none 8 (unclosedAt s) (λ j l. opens j l ∙ ap not (all-at 8 passed h j l)))
+  accepted-fault (Advance n) h = rw (coh, le-ltb n (s .minute) (omega (arith, leb-true (minuteAfter (o .calls)) n h, k .agrees .minute)))
 
   pub refused-fault : (c : Call) → accepted p o c ≡ false → (f : CallFault) × (callFault s c ≡ some f)
   unfolding accepted callFault firstFault
@@ -462,6 +497,7 @@ module _ {p : Plan} {o : Observed} {s : State} (sd : Sound p) (k : ListInvariant
         rw (coh, hasEvent-same j, q, k .agrees .closed j (step-bound j q), not-false (wasClosed o j) (rw q at h)),
       )
   refused-fault Finish h = (NotClosed, rw (coh, some-open 8 (omega arith) h))
+  refused-fault (Advance n) h = (Backward, rw (coh, lt-ltb n (s .minute) (omega (arith, leb-false (minuteAfter (o .calls)) n h, k .agrees .minute))))
 
   -- an accepted call
   at-accept : (c : Call)
@@ -478,9 +514,10 @@ module _ {p : Plan} {o : Observed} {s : State} (sd : Sound p) (k : ListInvariant
       go false q = subst (λ t. Step p (shows p o (Submit e) (lines t)) s t) (sym (submit-same s e q)) (at-same e q)
   at-accept (Close j) h = at-close j (step-bound j (and-left (hasEvent p j) (not (wasClosed o j)) h))
   at-accept Finish h = at-finish h
+  at-accept (Advance n) h = at-move n
 
   -- any call
-  step : (c : Call) → Step p (observe p o c (lines (call s c .state))) s (call s c .state)
+  pub step : (c : Call) → Step p (observe p o c (lines (call s c .state))) s (call s c .state)
   step c = go (accepted p o c) refl
     where
       to : (t : State) (v : Observed)
@@ -564,7 +601,11 @@ module _ {p : Plan} {o : Observed} {s : State} (sd : Sound p) (k : ListInvariant
     coherent-end = invariant-coherent sd (k .invariant);
   }
 
--- the invariant after any list on an admitted sheet
+-- the invariant at first, and after any list, on an admitted sheet
+pub at-begin : (bytes : List ℕ) (s : State) → readSheet bytes ≡ admitted s → ListInvariant (s .plan) nothingYet s
+at-begin bytes s read =
+    subst (ListInvariant (s .plan) nothingYet) (sym (sheet-first bytes s read)) (at-first (s .plan) (sheet-sound bytes s read))
+
 pub at-list : (bytes : List ℕ) (s : State) (cs : List Call)
     → readSheet bytes ≡ admitted s
     → ListInvariant (s .plan) (observeAll (s .plan) nothingYet (seen scheduler s cs)) (after scheduler s cs)

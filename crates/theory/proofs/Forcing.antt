@@ -13,19 +13,18 @@ use Rattle.plan.specs.Fates.{isOpen, isHeld, doneAs, sameFate}
 use Rattle.plan.specs.Plans.{forcible}
 use Rattle.plan.specs.Rules.{ready}
 use Rattle.scheduler.specs.State.{fateOf, hold, settleAs, Sized}
-use Rattle.scheduler.specs.Rules.{forbidden}
 use Rattle.scheduler.specs.Orders.{mayDo, fateAtTurn, doOne, doAll, Runs, First}
 use Rattle.scheduler.specs.Calls.{submit}
 use Rattle.scheduler.specs.Answers.{callFault, accept}
 use Rattle.scheduler.specs.Lists.{scheduler, after}
 use Rattle.scheduler.specs.Demand.{submits, anyCall}
-use Rattle.scheduler.specs.Grounds.{Trail, end, held, ordered, alone, refused, shuts, lapsed}
+use Rattle.scheduler.specs.Grounds.{Trail, end, held, ordered, alone, refused, shuts, lapsed, moves}
 use Rattle.theory.specs.Marks.{ForcedBy, Forces, Reports}
 use Rattle.plan.proofs.Tests.{and-left, and-right, or-either, or-right-true, clash, either}
 use Rattle.plan.proofs.Fates.{as-done, open-is}
-use Rattle.scheduler.proofs.Laws.{fate-past, plan-settle, fate-settle-same, fate-settle-either, fate-settle-other, sized-settle, plan-one, sized-one}
+use Rattle.scheduler.proofs.Laws.{fate-past, plan-settle, fate-settle-same, fate-settle-either, fate-settle-other, sized-settle, plan-one, sized-one, plan-minute, fate-minute, sized-minute}
 use Rattle.scheduler.proofs.Laws.{plan-hold, fate-hold-same, fate-hold-other, sized-hold, plan-shut, fate-shut, sized-shut}
-use Rattle.scheduler.proofs.Searching.{plan-doAll, sized-doAll, ready-bound}
+use Rattle.scheduler.proofs.Searching.{plan-doAll, sized-doAll, ready-bound, may-ready}
 use Rattle.scheduler.proofs.Branches.{submit-same, call-fault, call-accept}
 use Rattle.scheduler.proofs.Doing.{alone-plan, alone-fate}
 use Rattle.theory.proofs.SheetPlans.{sheet-first}
@@ -46,11 +45,11 @@ forces-open false h = absurd (differs Done refl h)
 at-hand : (s : State) (c : ℕ)
     → mayDo s c ≡ true
     → (isHeld (fateOf s c) ≡ true) ⊎ ((isOpen (fateOf s c) ≡ true) × (forcible (s .plan) c ≡ true))
-unfolding mayDo ready
+unfolding ready
 at-hand s c m =
     let fresh = isOpen (fateOf s c) in
     let may = forcible (s .plan) c in
-    elim (or-either (isHeld (fateOf s c)) (fresh && may) (and-left (isHeld (fateOf s c) || (fresh && may)) (not (forbidden s c)) m)) [
+    elim (or-either (isHeld (fateOf s c)) (fresh && may) (may-ready s c m)) [
       | inl h ↦ inl h
       | inr h ↦ inr (and-left fresh may h, and-right fresh may h)
     ]
@@ -97,6 +96,7 @@ trail-unopened (alone {s} d p u j k n r) z e h =
 trail-unopened (refused {s} d g r) z e h = trail-unopened r (sized-settle Refused s d z) e (settle-unopened Refused s d e z refl h)
 trail-unopened (shuts {s} k p r) z e h = trail-unopened r (sized-shut s k z) e (ap isOpen (fate-shut s k e) ∙ h)
 trail-unopened (lapsed {s} d p o r) z e h = trail-unopened r (sized-settle Lapsed s d z) e (settle-unopened Lapsed s d e z refl h)
+trail-unopened (moves {s} m p q r) z e h = trail-unopened r (sized-minute s m z) e (ap isOpen (fate-minute s m e) ∙ h)
 
 -- an event that an order forces
 record InTurn (s : State) (o : List ℕ) (e : ℕ) : Type 0 where
@@ -198,6 +198,10 @@ trail-forces (lapsed {s} d p o r) z e h = elim (trail-forces r (sized-settle Lap
   | inl f ↦ inl (settle-forced Lapsed s d e z refl f)
   | inr f ↦ inr (earlier-write e (plan-settle Lapsed s d) (λ u. lapsed d p o) (trail-unopened (lapsed d p o end) z e) f)
 ]
+trail-forces (moves {s} m p q r) z e h = elim (trail-forces r (sized-minute s m z) e h) [
+  | inl f ↦ inl (sym (fate-minute s m e) ∙ f)
+  | inr f ↦ inr (earlier-write e (plan-minute s m) (λ u. moves m p q) (trail-unopened (moves m p q end) z e) f)
+]
 
 -- the event handed in is held from then on, and not open
 not-itself : (s : State) (e : ℕ) → Sized s → callFault s (Submit e) ≡ none → fateOf (submit s e) e ≡ Forced → fateOf s e ≡ Forced
@@ -258,6 +262,8 @@ trail-heard (shuts {s} k p r) z e h =
     elim (trail-heard r (sized-shut s k z) e h) [ inl f ↦ inl (sym (ap heard (fate-shut s k e)) ∙ f) | inr f ↦ inr f ]
 trail-heard (lapsed {s} d p o r) z e h =
     elim (trail-heard r (sized-settle Lapsed s d z) e h) [ inl f ↦ inl (settle-heard Lapsed s d e z refl f) | inr f ↦ inr f ]
+trail-heard (moves {s} m p q r) z e h =
+    elim (trail-heard r (sized-minute s m z) e h) [ inl f ↦ inl (sym (ap heard (fate-minute s m e)) ∙ f) | inr f ↦ inr f ]
 
 pub forces : Forces scheduler
 forces = record {

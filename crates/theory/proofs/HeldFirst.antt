@@ -18,17 +18,18 @@ use Rattle.plan.specs.Rules.{ready}
 use Rattle.orders.specs.Closed.{Events}
 use Rattle.orders.specs.Sequences.{Ahead}
 use Rattle.orders.specs.Stepwise.{stepwise}
-use Rattle.scheduler.specs.State.{fateOf, Sized}
+use Rattle.scheduler.specs.State.{fateOf, Sized, inTime}
 use Rattle.scheduler.specs.Rules.{stands}
 use Rattle.scheduler.specs.Orders.{Viable, First, orderOf, chosen}
+use Rattle.theory.proofs.Conjunctions.{and-three}
 use Rattle.theory.specs.HeldFirst.{Shortest, firstAmong, heldFirst, members, AtHand}
-use Rattle.plan.proofs.Tests.{and-left, and-right, and-both, clash, first-some}
+use Rattle.plan.proofs.Tests.{and-right, and-both, clash, first-some, either}
 use Rattle.orders.proofs.Closure.{shared, shared-closed, least-has, least-closed, least-within, count-within}
 use Rattle.orders.proofs.Lowest.{first-at, first-nowhere}
 use Rattle.orders.proofs.Running.{inside, run-ready, count-inside}
 use Rattle.orders.proofs.Cutting.{keep}
-use Rattle.scheduler.proofs.Searching.{Passes, order-some, order-ahead, reaches, every, runs-differ, has-contains, ahead-both, chosen-none, chosen-first, mem-long}
-use Rattle.scheduler.proofs.LeastSets.{mem-among, among-mem, run-of, cut-viable, shortest-within, viable-closed, first-shortest, chosen-taken}
+use Rattle.scheduler.proofs.Searching.{Passes, order-some, order-ahead, reaches, every, runs-differ, has-contains, ahead-both, chosen-none, chosen-first, mem-long, run-time}
+use Rattle.scheduler.proofs.LeastSets.{mem-among, among-mem, run-of, cut-viable, shortest-within, viable-closed, first-shortest, chosen-taken, untimely-none}
 
 module _ (s : State) (z : Sized s) (e : ℕ) where
   -- the events of one lie in what it shares with the other, for that is closed and has e
@@ -59,7 +60,9 @@ module _ (s : State) (z : Sized s) (e : ℕ) where
       shortest-within s z e (members s e) (least-closed (s .plan) (stands s) (fateOf s) e) (least-has (s .plan) (stands s) (fateOf s) e) o (v .viable) (v .least) x (mem-among o m)
 
   at-hand : (o : List ℕ) → Viable s e o → (x : ℕ) → among x o ≡ true → AtHand s x
-  at-hand o v x h = run-ready (s .plan) (stands s) (fateOf s) o (run-of s z o (v .runs)) x h
+  at-hand o v x h =
+      let w = run-ready (s .plan) (stands s) (fateOf s) o (run-of s z o (v .runs)) x h in
+      (w .0, w .1, run-time s o (v .runs) x (among-mem x o h))
 
   -- no order is viable where a member is not at hand, or there are more than six
   pub unready-none : (x : ℕ) → members s e x ≡ true → (AtHand s x → ⊥) → (o : List ℕ) → Viable s e o → ⊥
@@ -71,16 +74,17 @@ module _ (s : State) (z : Sized s) (e : ℕ) where
 
   -- the events at hand, as a test; each other has no order
   handy : Events
-  handy x = ltb x (eventCount (s .plan)) && ready (s .plan) (fateOf s) x
+  handy x = ltb x (eventCount (s .plan)) && ready (s .plan) (fateOf s) x && inTime s x
 
   handy-is : (x : ℕ) → handy x ≡ true → AtHand s x
   unfolding handy
   handy-is x h =
-      (ltb-true x _ (and-left (ltb x (eventCount (s .plan))) _ h), and-right (ltb x (eventCount (s .plan))) _ h)
+      let q = and-three (ltb x (eventCount (s .plan))) (ready (s .plan) (fateOf s) x) (inTime s x) h in
+      (ltb-true x _ (q .0), q .1, q .2)
 
   is-handy : (x : ℕ) → AtHand s x → handy x ≡ true
   unfolding handy
-  is-handy x h = and-both (ltb x (eventCount (s .plan))) _ (lt-ltb x _ (h .0)) (h .1)
+  is-handy x h = rw (lt-ltb x (eventCount (s .plan)) (h .0), h .1, h .2)
 
   -- where its members are at hand and at most six, always the lowest of them that is not blocked is the right one to
   -- do next
@@ -88,7 +92,7 @@ module _ (s : State) (z : Sized s) (e : ℕ) where
       → countBelow 16 (members s e) ≤ 6
       → chosen s e ≡ stepwise (s .plan) (stands s) 6 (fateOf s) (members s e)
   members-chosen h few =
-      chosen-taken s z e handy (record { hand = handy-is; others = λ x lt r n. absurd (clash (is-handy x (lt, r)) n) }) (members s e) (record {
+      chosen-taken s z e handy (record { hand = handy-is; others = λ x lt r n. elim (either (inTime s x)) [ inl t ↦ absurd (clash (is-handy x (lt, r, t)) n) | inr t ↦ untimely-none s z x t ] }) (members s e) (record {
         fit = record { contains = least-has (s .plan) (stands s) (fateOf s) e; closed = least-closed (s .plan) (stands s) (fateOf s) e; ables = λ x t. is-handy x (h x t); few = few };
         least = λ n f. least-within (s .plan) (stands s) (fateOf s) e n (f .closed) (f .contains);
       })

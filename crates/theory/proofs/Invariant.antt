@@ -12,15 +12,15 @@ use lib.Dec.{eqb}
 use lib.ListN.{getD}
 use Rattle.theory.proofs.Types.{Fate, Open, Held, Refused, Lapsed, Plan, Entry, State}
 use Rattle.plan.specs.Plans.{eventCount, stepOf, delayable}
-use Rattle.scheduler.specs.State.{fateOf, brokenAt, closedAt, lines, settleAs, shut, Sized}
+use Rattle.scheduler.specs.State.{fateOf, brokenAt, closedAt, lines, settleAs, shut, setMinute, Sized}
 use Rattle.plan.specs.Histories.{blankEntry, fateIf}
 use Rattle.plan.specs.Fates.{isOpen, isDone, isGone, isSettled}
 use Rattle.scheduler.specs.Orders.{fateAtTurn, doOne, Runs, Viable, doAll}
-use Rattle.scheduler.specs.Calls.{Turn, refuses, does, Turns, stay, turn, Settles, settleOnce, settle, lapse, closeStep, Refusing, nothing-held, refuse-next, finish}
+use Rattle.scheduler.specs.Calls.{Turn, refuses, does, Turns, stay, turn, Settles, settleOnce, settle, lapse, closeStep, Refusing, nothing-held, refuse-next, finish, advanceTo}
 use Rattle.plan.proofs.Tests.{clash, either, and-left, and-both}
 use Rattle.plan.proofs.Fates.{open-is}
 use Rattle.orders.proofs.Doing.{gone-settled}
-use Rattle.scheduler.proofs.Laws.{turn-settled, fate-settle-other, closed-settle, broken-settle, plan-shut, fate-shut, broken-shut, history-shut, len-shut, lines-shut, closed-shut-other, sized-shut}
+use Rattle.scheduler.proofs.Laws.{turn-settled, fate-settle-other, closed-settle, broken-settle, plan-shut, fate-shut, broken-shut, history-shut, len-shut, lines-shut, closed-shut-other, sized-shut, plan-minute, fate-minute, broken-minute, closed-minute, history-minute, len-minute, lines-minute, sized-minute}
 use Rattle.scheduler.proofs.Branches.{lapse-yes, lapse-no}
 use Rattle.scheduler.proofs.Searching.{ready-unsettled}
 use Rattle.scheduler.proofs.Settling.{once-some, rest-none, settle-turns, settle-rest, finish-finishes}
@@ -354,6 +354,47 @@ close-keeps {p} {s} sd g k =
     } in
     let y = settle-keeps sd h in
     record { invariant = y .invariant; later = later-trans (z .later) (y .later); rest = y .rest }
+
+-- moving the minute changes nothing that the history and the rules read
+pub rules-minute : (s : State) (m : ℕ) → SameToRules s (setMinute s m)
+rules-minute s m = record {
+  same-plan = plan-minute s m;
+  opens = λ j h. sym (ap isOpen (fate-minute s m j)) ∙ h;
+  done = λ j. ap isDone (fate-minute s m j);
+  gone = λ j. ap isGone (fate-minute s m j);
+  recorded = broken-minute s m;
+  same-lines = lines-minute s m;
+}
+
+listing-minute : {p : Plan} {s : State} (m : ℕ) → HistoryListed p s → HistoryListed p (setMinute s m)
+listing-minute {p} {s} m b =
+    let shape : Shape p (setMinute s m) = record {
+      same-plan = plan-minute s m ∙ b .shape .same-plan;
+      sized = sized-minute s m (b .shape .sized);
+    } in
+    listing-alike shape (record {
+      settled = λ e. ap isSettled (fate-minute s m e);
+      fates = λ e. ap (λ x. fateIf (isSettled x) x) (fate-minute s m e);
+      len = len-minute s m;
+      same-lines = lines-minute s m;
+    }) b
+
+pub beyond-minute : {p : Plan} {s : State} (m : ℕ) → BlankBeyond p s → BlankBeyond p (setMinute s m)
+beyond-minute {p} {s} m t = record {
+  unused = λ e ge. fate-minute s m e ∙ t .unused e ge;
+  blank = λ i ge. ap (λ h. getD h i blankEntry) (history-minute s m) ∙ t .blank i (omega (arith, len-minute s m));
+}
+
+-- a move of the minute
+pub move-keeps : {p : Plan} {s : State} → Sound p → Invariant p s → (m : ℕ) → Settled p (setMinute s m) (advanceTo s m)
+unfolding advanceTo
+move-keeps {p} {s} sd g m = settle-keeps sd (record {
+  listing = listing-minute m (g .listing);
+  obeyed = obeyed-same (rules-minute s m) (g .obeyed);
+  quiet = quiet-same (rules-minute s m) p (g .quiet);
+  held = λ e lt q. g .held e lt (sym (fate-minute s m e) ∙ q);
+  still = λ e lt o. closed-minute s m (stepOf p e) ∙ g .still e lt (sym (fate-minute s m e) ∙ o);
+})
 
 -- winding up
 pub record Finished (p : Plan) (s t : State) : Type 0 where

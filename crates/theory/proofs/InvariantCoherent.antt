@@ -9,7 +9,7 @@ use Rattle.theory.proofs.Types.{Fate, Rule, Order, Need, Conditional, P
 use Rattle.plan.specs.Plans.{eventCount, ruleCount, stepOf, ruleAt, delayable}
 use Rattle.scheduler.specs.State.{fateOf, brokenAt, closedAt, lineCount, lines}
 use Rattle.plan.specs.Fates.{fateNumber, sameFate, isOpen, isHeld, isDone, isGone, isSettled}
-use Rattle.plan.specs.Rules.{soundRule, owes}
+use Rattle.plan.specs.Rules.{soundRule, soundWindow, soundWindows, owes}
 use Rattle.plan.specs.Histories.{fateIf, holds, sameFates, listedAs}
 use Rattle.theory.specs.Waiting.{plainOwes}
 use Rattle.scheduler.specs.Coherent.{coherentEvent, coherentRule, coherent}
@@ -88,7 +88,7 @@ module _ {s : State} (sd : Sound (s .plan)) (k : Invariant (s .plan) s) where
       (elim (either (brokenAt s i)) [ inl z ↦ rw z | inr z ↦ rw (z, k .quiet i l z, rule-holds sd k i l z) ])
 
   own-coherent : coherent s ≡ true
-  unfolding coherent
+  unfolding coherent soundWindows
   own-coherent =
       rw (
         le-leb (eventCount (s .plan)) 16 (sd .few-events),
@@ -96,8 +96,9 @@ module _ {s : State} (sd : Sound (s .plan)) (k : Invariant (s .plan) s) where
         le-leb (lineCount s) 16 (len-le (k .listing)),
         k .listing .only,
         all-of (eventCount (s .plan)) (coherentEvent s) event-coherent,
+        all-of (ruleCount (s .plan)) (coherentRule s) rule-coherent,
       )
-      (all-of (ruleCount (s .plan)) (coherentRule s) rule-coherent)
+      (all-of 16 (soundWindow (s .plan)) (sd .window))
 
 pub invariant-coherent : {p : Plan} {s : State} → Sound p → Invariant p s → coherent s ≡ true
 invariant-coherent {p} {s} sd k =

@@ -10,9 +10,13 @@ pub mod Invariant
 pub mod Submission
 pub mod InvariantCoherent
 pub mod Coherence
+pub mod Minutes
 pub mod Observation
 pub mod HeldFirst
 pub mod Demands
+pub mod Punctual
+pub mod Moves
+pub mod Timeless
 pub mod Marks
 pub mod MarkedCalls
 pub mod Forcing

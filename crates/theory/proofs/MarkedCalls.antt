@@ -8,12 +8,12 @@ use mathlib.Core.Option.{Option, none, some}
 use mathlib.Core.Path.{_≡_, refl, sym, _∙_, ap, ap₂, fun-ext}
 use lib.Dec.{eqb, ltb, leb}
 use lib.ListN.{take, replicate}
-use Rattle.theory.proofs.Types.{Fate, Open, Held, Done, Refused, Lapsed, Forced, Rule, Order, Need, Conditional, Plan, Entry, State, CallFault, Incoherent, TurnedDown, Reply, Call, Submit, Close, Finish}
+use Rattle.theory.proofs.Types.{Fate, Open, Held, Done, Refused, Lapsed, Forced, Rule, Order, Need, Conditional, Plan, Entry, State, CallFault, Incoherent, TurnedDown, Reply, Call, Submit, Close, Finish, Advance}
 use Rattle.plan.specs.declared.answer.Answer.the-variants.{Is, Made}
 use Rattle.plan.specs.Base.{anyBelow, allBelow, readAt}
 use Rattle.plan.specs.Fates.{isOpen, isHeld, isDone, isSettled, blankStanding}
 use Rattle.plan.specs.Plans.{emptyPlan, eventCount, ruleCount, ruleAt, stepOf, delayable, hasEvent}
-use Rattle.plan.specs.Rules.{soundEvent, soundRule}
+use Rattle.plan.specs.Rules.{soundEvent, soundRule, soundWindow, soundWindows}
 use Rattle.plan.specs.Histories.{blankEntry, fateIf, fatesIn, anyDone, doneIn, doneInTurn, holds, declaredOnly, sameFates, listedAs}
 use Rattle.plan.specs.Faults.{firstFault}
 use Rattle.plan.specs.Records.{addEvent}
@@ -30,7 +30,7 @@ use Rattle.theory.proofs.SheetPlans.{sheet-first}
 use Rattle.theory.proofs.InvariantCoherent.{same-fates-refl}
 use Rattle.theory.proofs.Coherence.{event-passes, sized-call, call-coherent, after-coherent}
 use Rattle.theory.proofs.Demands.{admitted-sized, admitted-coherent}
-use Rattle.theory.proofs.Marks.{sees-none, Like, owes-kind, plan-like, closed-like, fate-like, kind-like, submit-like, close-like, finish-like, forget-fate}
+use Rattle.theory.proofs.Marks.{sees-none, Like, owes-kind, plan-like, closed-like, fate-like, kind-like, submit-like, minute-like, close-like, finish-like, move-like, forget-fate}
 
 -- forgetting twice forgets no more
 map-twice : {A : Type 0} (f : A → A) → ((a : A) → f (f a) ≡ f a) → (l : List A) → map f (map f l) ≡ map f l
@@ -55,6 +55,7 @@ module _ (s t : State) (k : Like s t) where
   rows-like (Close j) = rw (ap (λ (p : Plan). hasEvent p j) (plan-like s t k), closed-same j)
   rows-like Finish =
       rw (ap (anyBelow 8) (fun-ext {f = unclosedAt s} {g = unclosedAt t} (λ j. ap₂ (λ a b. a && not b) (ap (λ (p : Plan). hasEvent p j) (plan-like s t k)) (closed-same j))))
+  rows-like (Advance m) = rw (minute-like s t k)
 
   -- a call that is taken
   accept-like : (c : Call) → forgetReply (accept s c) ≡ forgetReply (accept t c)
@@ -64,6 +65,7 @@ module _ (s t : State) (k : Like s t) where
       ap₂ (λ (x : Fate) (u : State). record { answer = Is x; state = u }) (fate-like _ _ later e) later
   accept-like (Close j) = ap (λ (u : State). record { answer = Made; state = u }) (close-like s t k j)
   accept-like Finish = ap (λ (u : State). record { answer = Made; state = u }) (finish-like s t k)
+  accept-like (Advance m) = ap (λ (u : State). record { answer = Made; state = u }) (move-like s t k m)
 
   -- number 12 aside
   pub take-like : (c : Call) → forgetReply (takeCall s c) ≡ forgetReply (takeCall t c)
@@ -187,8 +189,8 @@ module _ (s : State) where
       let p = s .plan in
       let counts = leb (eventCount p) 16 && leb (ruleCount p) 16 && leb (lineCount s) 16 in
       let declared = sym (ap (λ l. declaredOnly l (eventCount p)) lines-forgotten ∙ declared-forgotten (lines s) (eventCount p)) in
-      ap (λ b. counts && b && allBelow (eventCount p) (coherentEvent s) && allBelow (ruleCount p) (coherentRule s)) declared
-      ∙ ap₂ (λ a b. counts && declaredOnly (lines (forget s)) (eventCount p) && a && b)
+      ap (λ b. counts && b && allBelow (eventCount p) (coherentEvent s) && allBelow (ruleCount p) (coherentRule s) && soundWindows p) declared
+      ∙ ap₂ (λ a b. counts && declaredOnly (lines (forget s)) (eventCount p) && a && b && soundWindows p)
       (all-same (eventCount p) (coherentEvent s) (coherentEvent (forget s)) (λ e lt. event-same e (right e lt)))
       (all-same (ruleCount p) (coherentRule s) (coherentRule (forget s)) (λ i lt. rule-same i))
 
@@ -255,8 +257,9 @@ misread = record {
   closed = replicate 8 false;
   history = record { event = 0; fate = Done } ∷ replicate 15 blankEntry;
   «history_len» = 1;
+  minute = 0;
 }
 
 pub marks-wrong : (coherent misread ≡ false) × (coherent (forget misread) ≡ true)
-unfolding coherent forget coherentEvent coherentRule allBelow declaredOnly soundEvent listedAs fatesIn sameFates addEvent
+unfolding coherent soundWindows soundWindow forget coherentEvent coherentRule allBelow declaredOnly soundEvent listedAs fatesIn sameFates addEvent
 marks-wrong = (refl, refl)

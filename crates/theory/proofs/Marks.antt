@@ -10,12 +10,12 @@ use Rattle.theory.proofs.Types.{Fate, Open, Held, Done, Refused, Lapsed
 use Rattle.plan.specs.declared.fate.Standing.{Standing}
 use Rattle.plan.specs.Base.{anyBelow, when, firstOf, lowest, readAt, storeAt}
 use Rattle.plan.specs.Fates.{Fates, isOpen, isHeld, isDone, isGone, blankStanding}
-use Rattle.plan.specs.Plans.{eventCount, ruleCount, ruleAt, stepOf, rejectable, delayable}
+use Rattle.plan.specs.Plans.{eventCount, ruleCount, ruleAt, stepOf, rejectable, delayable, allowedAt, overAt}
 use Rattle.plan.specs.Rules.{unstoppable, reckoned, triggered, bars, makesWait, forbids, owes, ready}
-use Rattle.scheduler.specs.State.{fateOf, lineCount, hold, settleAs, shut, breakRule}
-use Rattle.scheduler.specs.Rules.{stands, barred, forbidden, owing, strains}
+use Rattle.scheduler.specs.State.{fateOf, lineCount, hold, settleAs, shut, breakRule, inTime, tooLate, setMinute}
+use Rattle.scheduler.specs.Rules.{stands, barred, forbidden, owing, strains, ruledOut}
 use Rattle.scheduler.specs.Orders.{mayDo, fateAtTurn, doOne, doAll, orderOf, chosen}
-use Rattle.scheduler.specs.Calls.{toRefuse, toDo, settleOnce, settleUpTo, settle, breakIf, recordBroken, doAlone, decide, submit, lapse, closeStep, refuseHeld, finish}
+use Rattle.scheduler.specs.Calls.{toRefuse, toDo, settleOnce, settleUpTo, settle, breakIf, recordBroken, doAlone, decide, submit, lapse, closeStep, refuseHeld, finish, advanceTo}
 use Rattle.theory.specs.Marks.{forgetFate, forgetLine, forget}
 use Rattle.plan.proofs.Tests.{some-none}
 use Rattle.plan.proofs.Fates.{as-done}
@@ -93,7 +93,7 @@ module _ (p : Plan) (f g : Fates) (k : (e : ℕ) → SameKind (f e) (g e)) where
   unfolding ready
   ready-kind e = rw (k e .is-open, k e .is-held)
 
--- the four writes, and forgetting before or after them
+-- the five writes, and forgetting before or after them
 abbrev plainStanding : Standing → Standing
 plainStanding v = record { fate = forgetFate (v .fate) }
 
@@ -112,6 +112,10 @@ forget-hold s e = rw (map-store plainStanding 16 (s .standings) e (record { fate
 forget-shut : (s : State) (k : ℕ) → forget (shut s k) ≡ shut (forget s) k
 unfolding forget shut
 forget-shut s k = refl
+
+forget-minute : (s : State) (m : ℕ) → forget (setMinute s m) ≡ setMinute (forget s) m
+unfolding forget setMinute
+forget-minute s m = refl
 
 forget-break : (s : State) (i : ℕ) → forget (breakRule s i) ≡ breakRule (forget s) i
 unfolding forget breakRule
@@ -143,6 +147,16 @@ module _ (s t : State) (k : Like s t) where
   unfolding forget
   broken-like = ap (λ (u : State). u .broken) k
 
+  pub minute-like : s .minute ≡ t .minute
+  unfolding forget
+  minute-like = ap (λ (u : State). u .minute) k
+
+  time-like : (e : ℕ) → inTime s e ≡ inTime t e
+  time-like e = ap₂ (λ (p : Plan) (m : ℕ). allowedAt p m e) plan-like minute-like
+
+  late-like : (e : ℕ) → tooLate s e ≡ tooLate t e
+  late-like e = ap₂ (λ (p : Plan) (m : ℕ). overAt p m e) plan-like minute-like
+
   pub closed-like : s .closed ≡ t .closed
   unfolding forget
   closed-like = ap (λ (u : State). u .closed) k
@@ -165,10 +179,14 @@ module _ (s t : State) (k : Like s t) where
       ap (λ (p : Plan). anyBelow (ruleCount p) (λ i. stands s i && f p (ruleAt p i))) plan-like
       ∙ ap (anyBelow (ruleCount (t .plan))) (fun-ext (λ i. ap₂ (λ a b. a && b) (stands-like i) (h (ruleAt (t .plan) i))))
 
+  ruled-like : (e : ℕ) → ruledOut s e ≡ ruledOut t e
+  unfolding ruledOut
+  ruled-like e =
+      any-like (λ p r. bars p (fateOf s) r e) (λ p r. bars p (fateOf t) r e) (λ r. bars-kind (t .plan) (fateOf s) (fateOf t) kind-like r e)
+
   pub barred-like : (e : ℕ) → barred s e ≡ barred t e
   unfolding barred
-  barred-like e =
-      any-like (λ p r. bars p (fateOf s) r e) (λ p r. bars p (fateOf t) r e) (λ r. bars-kind (t .plan) (fateOf s) (fateOf t) kind-like r e)
+  barred-like e = ap₂ (λ a b. a || b) (ruled-like e) (late-like e)
 
   forbidden-like : (e : ℕ) → forbidden s e ≡ forbidden t e
   unfolding forbidden
@@ -182,9 +200,11 @@ module _ (s t : State) (k : Like s t) where
   may-like : (c : ℕ) → mayDo s c ≡ mayDo t c
   unfolding mayDo
   may-like c =
-      ap₂ (λ a b. a && not b)
+      ap₂ (λ a b. a && b)
+      (ap₂ (λ a b. a && not b)
       (ap (λ (p : Plan). ready p (fateOf s) c) plan-like ∙ ready-kind (t .plan) (fateOf s) (fateOf t) kind-like c)
-      (forbidden-like c)
+      (forbidden-like c))
+      (time-like c)
 
   -- the writes
   pub settle-like : (x y : Fate) → forgetFate x ≡ forgetFate y → (e : ℕ) → Like (settleAs x s e) (settleAs y t e)
@@ -195,6 +215,9 @@ module _ (s t : State) (k : Like s t) where
 
   pub shut-like : (j : ℕ) → Like (shut s j) (shut t j)
   shut-like j = forget-shut s j ∙ ap (λ (u : State). shut u j) k ∙ sym (forget-shut t j)
+
+  moved-like : (m : ℕ) → Like (setMinute s m) (setMinute t m)
+  moved-like m = forget-minute s m ∙ ap (λ (u : State). setMinute u m) k ∙ sym (forget-minute t m)
 
   break-like : (i : ℕ) → Like (breakRule s i) (breakRule t i)
   break-like i = forget-break s i ∙ ap (λ (u : State). breakRule u i) k ∙ sym (forget-break t i)
@@ -381,3 +404,7 @@ refusing-like (suc n) s t k = go (lowestHeld t) refl (λ u v w. refusing-like n 
 pub finish-like : (s t : State) → Like s t → Like (finish s) (finish t)
 unfolding finish
 finish-like s t k = refusing-like 16 (settle s) (settle t) (settling-like s t k)
+
+pub move-like : (s t : State) → Like s t → (m : ℕ) → Like (advanceTo s m) (advanceTo t m)
+unfolding advanceTo
+move-like s t k m = settling-like (setMinute s m) (setMinute t m) (moved-like s t k m)

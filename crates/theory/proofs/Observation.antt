@@ -18,7 +18,7 @@ use Rattle.scheduler.specs.State.{fateOf, brokenAt, closedAt, lineCount, lines,
 use Rattle.plan.specs.Fates.{blankStanding, isOpen, isSettled}
 use Rattle.plan.specs.Histories.{blankEntry, fateIf, fatesIn}
 use Rattle.scheduler.specs.Orders.{hasViable}
-use Rattle.scheduler.specs.Demand.{Observed, wasSubmitted, wasClosed, waitsAs, observedFate, stateOf, startsDone, doneAlone}
+use Rattle.scheduler.specs.Demand.{Observed, wasSubmitted, wasClosed, minuteAfter, waitsAs, observedFate, stateOf, startsDone, doneAlone}
 use Rattle.plan.proofs.Tests.{clash, either, or-either}
 use Rattle.theory.proofs.HistoryInvariant.{HistoryListed, BlankBeyond, len-le, unlisted}
 
@@ -57,6 +57,7 @@ pub record Agrees (o : Observed) (s : State) : Type 0 where
   pub waits : (e : ℕ) → isSettled (fateOf s e) ≡ false → fateOf s e ≡ waitsAs (wasSubmitted o e)
   pub closed : (k : ℕ) → k < 8 → closedAt s k ≡ wasClosed o k
   pub recorded : (i : ℕ) → i < 16 → brokenAt s i ≡ among i (o .recorded)
+  pub minute : s .minute ≡ minuteAfter (o .calls)
 
 module _ {p : Plan} {o : Observed} {s : State} (k : HistoryListed p s) (t : BlankBeyond p s) (a : Agrees o s) where
   listed-all : (e : ℕ) → fatesIn (lines s) e ≡ fateIf (isSettled (fateOf s e)) (fateOf s e)
@@ -107,6 +108,7 @@ module _ {p : Plan} {o : Observed} {s : State} (k : HistoryListed p s) (t : Blan
     history = as-tabulate 16 (s .history) (λ j. getD (o .history) j blankEntry) blankEntry
         (k .shape .sized .history-len) (λ j lt. line-shown j) i;
     «history_len» = (sym (ap length (a .history) ∙ len-lines)) i;
+    minute = a .minute i;
   }
 
   -- the test for an event done alone, read off the state, where a history adds lines

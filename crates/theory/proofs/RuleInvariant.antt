@@ -3,7 +3,7 @@
 use Prim.Native.Nat.{ℕ, _<_}
 use native.Mathlib.Omega.{arith}
 use native.Mathlib.Decide.{ℕ-discrete}
-use borrow.Author.Tests.{eq-eqb, ne-eqb, eqb-true, not-true, not-false}
+use borrow.Author.Tests.{eq-eqb, ne-eqb, eqb-true, not-false}
 use mathlib.Core.Bool.{Bool, true, false, not, _&&_, _||_, and-true, and-false, or-false}
 use mathlib.Core.List.{List, [], _∷_, _++_}
 use mathlib.Core.Logic.{inl, inr}
@@ -14,7 +14,7 @@ use Rattle.plan.specs.Base.{anyBelow}
 use Rattle.plan.specs.Plans.{eventCount, ruleCount, ruleAt, forcible, rejectable, delayable}
 use Rattle.scheduler.specs.State.{fateOf, brokenAt, lines, settleAs}
 use Rattle.plan.specs.Fates.{Fates, isOpen, isDone, isGone, isSettled}
-use Rattle.plan.specs.Rules.{named, unstoppable, reckoned, triggered, bars, makesWait, forbids, owes, ready}
+use Rattle.plan.specs.Rules.{named, unstoppable, reckoned, triggered, bars, makesWait, forbids, owes}
 use Rattle.plan.specs.Histories.{doneIn, doneInTurn}
 use Rattle.scheduler.specs.Rules.{forbidden, owing}
 use Rattle.scheduler.specs.Orders.{fateAtTurn, doOne, mayDo}
@@ -25,7 +25,7 @@ use Rattle.plan.proofs.Lines.{turn-append, done-settled-if}
 use Rattle.plan.proofs.RuleReads.{two-named, ThreeNamed, triple-named}
 use Rattle.orders.proofs.Doing.{done-settled, gone-settled}
 use Rattle.scheduler.proofs.Laws.{turn-done, turn-settled, plan-settle, fate-settle-other, broken-settle}
-use Rattle.scheduler.proofs.Searching.{ready-unsettled}
+use Rattle.scheduler.proofs.Searching.{ready-unsettled, may-free}
 use Rattle.theory.proofs.SoundPlans.{Sound, rule-named}
 use Rattle.theory.proofs.Waits.{awaits-unbreakable, awaits-bars, awaits-owes, bars-plain, owes-plain}
 use Rattle.theory.proofs.HistoryInvariant.{Shape, HistoryListed, fate-then, lines-then}
@@ -416,10 +416,7 @@ module _ {p : Plan} {s : State} (sd : Sound p) (e : ℕ) (k : HistoryListed p s)
   un = ready-unsettled s e m
 
   free : NoStanding p s (λ r. forbids (s .plan) (fateOf s) r e)
-  unfolding mayDo
-  free =
-      allowed (k .shape) e
-      (not-true (forbidden s e) (and-right (ready (s .plan) (fateOf s) e) (not (forbidden s e)) m))
+  free = allowed (k .shape) e (may-free s e m)
 
   no-bar : NoStanding p s (λ r. bars (s .plan) (fateOf s) r e)
   unfolding forbids

@@ -2,24 +2,25 @@
 use Prim.Native.Nat.{ℕ, zero, suc, _+_, _≤_, _<_}
 use native.Mathlib.Omega.{arith}
 use native.Mathlib.Decide.{ℕ-discrete}
-use borrow.Author.Tests.{ltb-true, lt-ltb, eqb-false, not-false}
-use mathlib.Core.Bool.{Bool, true, false, not, _&&_}
+use borrow.Author.Tests.{ltb-true, lt-ltb, leb-false, eqb-false, not-false}
+use mathlib.Core.Bool.{Bool, true, false, not, _&&_, _||_}
 use mathlib.Core.List.{List, [], _∷_}
-use mathlib.Core.Logic.{_≢_}
+use mathlib.Core.Logic.{_≢_, inl, inr}
 use mathlib.Core.Option.{Option, none, some}
 use mathlib.Core.Path.{_≡_, refl, sym, _∙_, ap, subst}
-use lib.Dec.{eqb, ltb}
+use lib.Dec.{eqb, ltb, leb}
 use lib.ListN.{length, getD}
-use Rattle.theory.proofs.Types.{Event, Rule, Order, Need, Conditional, RuleLine, Plan, Record, State, SheetFault, Admitted, Faulty, Reading}
+use Rattle.theory.proofs.Types.{Event, Rule, Order, Need, Conditional, RuleLine, Window, Plan, Record, State, SheetFault, Admitted, Faulty, Reading}
 use Rattle.theory.proofs.Conjunctions.{and-three, and-four}
 use Rattle.theory.proofs.SoundPlans.{Sound, rule-named, rule-enforced, same-enforced}
-use Rattle.plan.specs.Plans.{eventCount, ruleCount, eventAt, attributesOf, ruleAt, blankEvent, blankRule, emptyPlan}
+use Rattle.plan.specs.Plans.{eventCount, ruleCount, eventAt, attributesOf, windowAt, fromOf, untilOf, hasWindow, ruleAt, holdsBit, delayable, blankEvent, blankRule, blankWindow, emptyPlan}
 use Rattle.scheduler.specs.State.{firstState, emptyState}
-use Rattle.plan.specs.Rules.{badStep, badAttributes, named, enforceable, soundEvent, soundRule}
-use Rattle.plan.specs.Records.{bodyLength, recordAt, ruleOf, addEvent, addRule, table1, addEvents, declare, isRule, recordFault}
+use Rattle.plan.specs.Rules.{badStep, badAttributes, badWindow, named, enforceable, soundEvent, soundRule, soundWindow}
+use Rattle.plan.specs.Records.{bodyLength, recordAt, ruleOf, addEvent, addRule, addWindow, table1, addEvents, declare, isRule, recordFault}
 use Rattle.plan.specs.Sheets.{PlanReading, whole, faulty, readFrom, readPlan, ending, sheetPlan}
 use Rattle.scheduler.specs.Sheet.{admitted, readSheet}
-use Rattle.plan.proofs.Tests.{and-both}
+use Rattle.plan.proofs.Tests.{and-both, or-left, or-right, or-either, or-right-true}
+use Rattle.plan.proofs.Windows.{blank-sound}
 use Rattle.plan.proofs.Arrays.{length-store, read-same, read-other, read-blank}
 use Rattle.plan.proofs.FaultlessRecords.{Faultless, faultless}
 
@@ -27,6 +28,7 @@ use Rattle.plan.proofs.FaultlessRecords.{Faultless, faultless}
 pub record Read (p : Plan) : Type 0 where
   pub events-len : length (p .events) ≡ 16
   pub rules-len : length (p .rules) ≡ 16
+  pub windows-len : length (p .windows) ≡ 16
   pub events-blank : (e : ℕ) → eventCount p ≤ e → eventAt p e ≡ blankEvent
   pub rules-blank : (i : ℕ) → ruleCount p ≤ i → ruleAt p i ≡ blankRule .rule
   pub sound : Sound p
@@ -35,6 +37,7 @@ read-empty : Read emptyPlan
 read-empty = record {
   events-len = refl;
   rules-len = refl;
+  windows-len = refl;
   events-blank = λ e l. read-blank 16 blankEvent e;
   rules-blank = λ i l. ap (λ (v : RuleLine). v .rule) (read-blank 16 blankRule i);
   sound = record {
@@ -42,6 +45,7 @@ read-empty = record {
     few-rules = omega arith;
     event = λ e l. absurd (omega arith);
     rule = λ i l. absurd (omega arith);
+    window = λ e l. blank-sound emptyPlan e (read-blank 16 blankWindow e);
   };
 }
 
@@ -101,11 +105,26 @@ module _ (p : Plan) (k a : ℕ) (r : Read p) (room : eventCount p < 16) where
     | no ne ↦ ap isSound (old-event e ne) ∙ r .sound .event e (omega arith)
   ]
 
+  -- a window that could be given still can
+  window-stays : (e : ℕ) → soundWindow p e ≡ true → soundWindow (addEvent p k a) e ≡ true
+  unfolding soundWindow addEvent
+  window-stays e h =
+      let none = eqb (fromOf p e) 0 && eqb (untilOf p e) 0 in
+      let right = ltb (fromOf p e) (untilOf p e) in
+      elim (or-either none (ltb e (eventCount p) && delayable p e && right) h) [
+        | inl t ↦ rw t
+        | inr t ↦
+            let q = and-three (ltb e (eventCount p)) (delayable p e) right t in
+            let d : delayable (addEvent p k a) e ≡ true = ap (holdsBit 4) (same-attributes e (ltb-true e (eventCount p) (q .0))) ∙ q .1 in
+            rw (below-more e (eventCount p) (q .0), d, q .2) (or-right-true none)
+      ]
+
   read-event : badStep k ≡ false → badAttributes a ≡ false → Read (addEvent p k a)
   unfolding addEvent soundRule
   read-event hk ha = record {
     events-len = length-store 16 (p .events) (eventCount p) _ ∙ r .events-len;
     rules-len = r .rules-len;
+    windows-len = r .windows-len;
     events-blank = λ e l. old-event e (omega arith) ∙ r .events-blank e (omega arith);
     rules-blank = r .rules-blank;
     sound = record {
@@ -113,6 +132,7 @@ module _ (p : Plan) (k a : ℕ) (r : Read p) (room : eventCount p < 16) where
       few-rules = r .sound .few-rules;
       event = event-sound hk ha;
       rule = λ i l. rule-stays (ruleAt p i) (rule-named (r .sound) i l) (rule-enforced (r .sound) i l);
+      window = λ e l. window-stays e (r .sound .window e l);
     };
   }
 
@@ -147,10 +167,11 @@ module _ (p : Plan) (u : Rule) (r : Read p) (room : ruleCount p < 16) (n : named
   ]
 
   read-rule : Read (addRule p u)
-  unfolding addRule soundEvent
+  unfolding addRule soundEvent soundWindow
   read-rule = record {
     events-len = r .events-len;
     rules-len = length-store 16 (p .rules) (ruleCount p) _ ∙ r .rules-len;
+    windows-len = r .windows-len;
     events-blank = r .events-blank;
     rules-blank = λ i l. old-rule i (omega arith) ∙ r .rules-blank i (omega arith);
     sound = record {
@@ -158,6 +179,69 @@ module _ (p : Plan) (u : Rule) (r : Read p) (room : ruleCount p < 16) (n : named
       few-rules = omega arith;
       event = r .sound .event;
       rule = rule-sound;
+      window = r .sound .window;
+    };
+  }
+
+-- the window of an event
+module _ (p : Plan) (d from until : ℕ) (r : Read p) (good : badWindow p d from until ≡ false) where
+  -- it is declared and delayable, and the window ends after it begins
+  good-is : (d < eventCount p) × (delayable p d ≡ true) × (from < until)
+  unfolding badWindow
+  good-is =
+      let a = or-left (leb (eventCount p) d || not (delayable p d) || hasWindow p d) (leb until from) good in
+      let b = or-left (leb (eventCount p) d || not (delayable p d)) (hasWindow p d) a in
+      (leb-false (eventCount p) d (or-left (leb (eventCount p) d) (not (delayable p d)) b), not-false (delayable p d) (or-right (leb (eventCount p) d) (not (delayable p d)) b), leb-false until from (or-right (leb (eventCount p) d || not (delayable p d) || hasWindow p d) (leb until from) good))
+
+  new-window : windowAt (addWindow p d from until) d ≡ record { from = from; until = until }
+  unfolding addWindow
+  new-window = read-same 16 (p .windows) d (record { from = from; until = until }) blankWindow (omega (arith, r .windows-len, good-is .0, r .sound .few-events))
+
+  old-window : (e : ℕ) → e ≢ d → windowAt (addWindow p d from until) e ≡ windowAt p e
+  unfolding addWindow
+  old-window e ne = read-other 16 (p .windows) d (record { from = from; until = until }) blankWindow e ne
+
+  abbrev isRight : ℕ → Window → Bool
+  isRight e w = (eqb (w .from) 0 && eqb (w .until) 0) || (ltb e (eventCount p) && delayable p e && ltb (w .from) (w .until))
+
+  as-right : (e : ℕ) → soundWindow (addWindow p d from until) e ≡ isRight e (windowAt (addWindow p d from until) e)
+  unfolding soundWindow addWindow
+  as-right e = refl
+
+  window-sound : (e : ℕ) → e < 16 → soundWindow (addWindow p d from until) e ≡ true
+  unfolding soundWindow
+  window-sound e l = as-right e ∙ elim (ℕ-discrete e d) [
+    | yes q ↦ rw q (ap (isRight d) new-window ∙ rw (lt-ltb d (eventCount p) (good-is .0), good-is .1, lt-ltb from until (good-is .2)) (or-right-true (eqb from 0 && eqb until 0)))
+    | no ne ↦ ap (isRight e) (old-window e ne) ∙ r .sound .window e l
+  ]
+
+  -- a rule names and asks what it did
+  window-tests : (v : Rule)
+      → (named (eventCount (addWindow p d from until)) v && enforceable (addWindow p d from until) v)
+      ≡ (named (eventCount p) v && enforceable p v)
+  unfolding named enforceable addWindow
+  window-tests (Order x y) = refl
+  window-tests (Need x y) = refl
+  window-tests (Conditional x y z) = refl
+
+  rule-windowed : (i : ℕ) → i < ruleCount p → soundRule (addWindow p d from until) i ≡ true
+  unfolding soundRule addWindow
+  rule-windowed i l = window-tests (ruleAt p i) ∙ r .sound .rule i l
+
+  read-window : Read (addWindow p d from until)
+  unfolding addWindow soundEvent
+  read-window = record {
+    events-len = r .events-len;
+    rules-len = r .rules-len;
+    windows-len = length-store 16 (p .windows) d _ ∙ r .windows-len;
+    events-blank = r .events-blank;
+    rules-blank = r .rules-blank;
+    sound = record {
+      few-events = r .sound .few-events;
+      few-rules = r .sound .few-rules;
+      event = r .sound .event;
+      rule = rule-windowed;
+      window = window-sound;
     };
   }
 
@@ -187,23 +271,24 @@ module _ (p : Plan) (r : Read p) {len at : ℕ} where
   read-rule-record v c is room =
       read-rule p (ruleOf v) r room (not-false _ (rw is at (c .names))) (not-false _ (rw is at (c .enforced)))
 
-  by-kind : (k x y z : ℕ)
-      → Faultless p len at (record { kind = k; x = x; y = y; z = z })
+  by-kind : (k x y z from until : ℕ)
+      → Faultless p len at (record { kind = k; x = x; y = y; z = z; from = from; until = until })
       → k ≢ 5
-      → Read (declare p (record { kind = k; x = x; y = y; z = z }))
+      → Read (declare p (record { kind = k; x = x; y = y; z = z; from = from; until = until }))
   unfolding declare
-  by-kind zero x y z c five = absurd (omega arith)
-  by-kind (suc zero) x y z c five = read-event p x y r (omega arith) (c .step) (c .attributes)
-  by-kind (suc (suc zero)) x y z c five = read-rule-record _ c refl (omega arith)
-  by-kind (suc (suc (suc zero))) x y z c five = read-rule-record _ c refl (omega arith)
-  by-kind (suc (suc (suc (suc zero)))) x y z c five = read-rule-record _ c refl (omega arith)
-  by-kind (suc (suc (suc (suc (suc zero))))) x y z c five = absurd (omega arith)
-  by-kind (suc (suc (suc (suc (suc (suc zero)))))) x y z c five =
+  by-kind zero x y z f u c five = absurd (omega arith)
+  by-kind (suc zero) x y z f u c five = read-event p x y r (omega arith) (c .step) (c .attributes)
+  by-kind (suc (suc zero)) x y z f u c five = read-rule-record _ c refl (omega arith)
+  by-kind (suc (suc (suc zero))) x y z f u c five = read-rule-record _ c refl (omega arith)
+  by-kind (suc (suc (suc (suc zero)))) x y z f u c five = read-rule-record _ c refl (omega arith)
+  by-kind (suc (suc (suc (suc (suc zero))))) x y z f u c five = absurd (omega arith)
+  by-kind (suc (suc (suc (suc (suc (suc zero)))))) x y z f u c five =
       read-events p x table1 r (omega arith) (c .step) table-sound
-  by-kind (suc (suc (suc (suc (suc (suc (suc k))))))) x y z c five = absurd (omega arith)
+  by-kind (suc (suc (suc (suc (suc (suc (suc zero))))))) x y z f u c five = read-window p x f u r (c .window)
+  by-kind (suc (suc (suc (suc (suc (suc (suc (suc k)))))))) x y z f u c five = absurd (omega arith)
 
   read-declared : (v : Record) → Faultless p len at v → v .kind ≢ 5 → Read (declare p v)
-  read-declared v c five = by-kind (v .kind) (v .x) (v .y) (v .z) c five
+  read-declared v c five = by-kind (v .kind) (v .x) (v .y) (v .z) (v .from) (v .until) c five
 
 faulty-whole : {f : SheetFault} {at end : ℕ} {p : Plan} → faulty f at ≡ whole p end → ⊥
 faulty-whole {f} {at} {end} {p} h = let z : _≡_ {A = ℕ} 0 1 = cc in omega arith

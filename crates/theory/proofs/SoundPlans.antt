@@ -6,7 +6,7 @@ use mathlib.Core.Bool.{true, not}
 use mathlib.Core.Path.{_≡_}
 use Rattle.theory.proofs.Types.{Rule, Order, Need, Conditional, Plan}
 use Rattle.plan.specs.Plans.{eventCount, ruleCount, stepOf, attributesOf, ruleAt}
-use Rattle.plan.specs.Rules.{badStep, badAttributes, named, enforceable, soundEvent, soundRule}
+use Rattle.plan.specs.Rules.{badStep, badAttributes, named, enforceable, soundEvent, soundRule, soundWindow}
 use Rattle.plan.proofs.Tests.{and-left, and-right}
 use Rattle.plan.proofs.RuleReads.{two-named, triple-named}
 
@@ -15,6 +15,7 @@ pub record Sound (p : Plan) : Type 0 where
   pub few-rules : ruleCount p ≤ 16
   pub event : (e : ℕ) → e < eventCount p → soundEvent p e ≡ true
   pub rule : (i : ℕ) → i < ruleCount p → soundRule p i ≡ true
+  pub window : (e : ℕ) → e < 16 → soundWindow p e ≡ true
 
 -- each of its events has a step below 8
 pub step-low : {p : Plan} → Sound p → (e : ℕ) → e < eventCount p → stepOf p e < 8

@@ -12,7 +12,7 @@ use Rattle.plan.specs.Plans.{eventCount}
 use Rattle.plan.specs.Rules.{ready}
 use Rattle.orders.specs.Closed.{Events}
 use Rattle.orders.specs.Leasts.{leastSet}
-use Rattle.scheduler.specs.State.{fateOf}
+use Rattle.scheduler.specs.State.{fateOf, inTime}
 use Rattle.scheduler.specs.Rules.{stands}
 use Rattle.scheduler.specs.Orders.{Viable, orderOf}
 
@@ -35,6 +35,6 @@ heldFirst s e = firstAmong (λ c. isHeld (fateOf s c)) s e
 abbrev pub members : State → ℕ → Events
 members s e = leastSet (s .plan) (stands s) (fateOf s) e
 
--- the event is declared, and ready (7.2)
+-- the event is declared, ready, and in time (7.2, 7.3)
 abbrev pub AtHand : State → ℕ → Type 0
-AtHand s x = (x < eventCount (s .plan)) × (ready (s .plan) (fateOf s) x ≡ true)
+AtHand s x = (x < eventCount (s .plan)) × (ready (s .plan) (fateOf s) x ≡ true) × (inTime s x ≡ true)

@@ -2,3 +2,4 @@
 pub mod HeldFirst
 pub mod Marks
 pub mod Waiting
+pub mod Windows

@@ -43,6 +43,7 @@ forget s = record {
   closed = s .closed;
   history = map forgetLine (s .history);
   «history_len» = lineCount s;
+  minute = s .minute;
 }
 
 abbrev pub forgetReply : Reply → Reply

@@ -6,15 +6,15 @@ use mathlib.Core.Path.{_≡_, refl}
 use lib.ListN.{length, set}
 use Rattle.writer.specs.Types.{Submit, Close, State}
 use Rattle.plan.specs.Base.{anyBelow, allBelow, firstOf, tabulate, lowest}
-use Rattle.plan.specs.Plans.{hasEvent}
-use Rattle.plan.specs.Rules.{named, enforceable, soundEvent, soundRule, unstoppable, reckoned, triggered, bars, makesWait, forbids, owes, ready}
+use Rattle.plan.specs.Plans.{hasEvent, allowedIn, overIn, allowedAt, overAt}
+use Rattle.plan.specs.Rules.{named, enforceable, soundEvent, soundRule, unstoppable, reckoned, triggered, bars, makesWait, forbids, owes, ready, badWindow, soundWindow, soundWindows}
 use Rattle.plan.specs.Histories.{listedAs, fatesIn, anyDone, doneIn, doneInTurn, holds, declaredOnly, sameFates}
 use Rattle.plan.specs.Faults.{firstFault, answerNumber}
-use Rattle.plan.specs.Records.{ruleOf, addEvent, addRule, addEvents, declare, recordFault}
+use Rattle.plan.specs.Records.{ruleOf, addEvent, addRule, addEvents, declare, recordFault, addWindow}
 use Rattle.plan.specs.Sheets.{sheetPlan, ending, readFrom, readPlan}
 use Rattle.plan.proofs.FormatCases.{times}
 use Rattle.scheduler.specs.State.{firstState, emptyState, hold, settleAs, shut, breakRule}
-use Rattle.scheduler.specs.Rules.{barred, forbidden, owing, strains}
+use Rattle.scheduler.specs.Rules.{barred, forbidden, owing, strains, ruledOut}
 use Rattle.scheduler.specs.Orders.{mayDo, doAll, orderOf, chosen}
 use Rattle.scheduler.specs.Calls.{toRefuse, toDo, settleOnce, settleUpTo, settle, recordBroken, doAlone, decide, submit, lapse, closeStep, refuseHeld, finish}
 use Rattle.scheduler.specs.Coherent.{coherentEvent, coherentRule, coherent}
@@ -24,7 +24,7 @@ use Rattle.scheduler.specs.Sheet.{readSheet}
 use Rattle.scheduler.proofs.Cases.{sheetA, sheetD, sheetL, firstOn}
 use Rattle.pages.specs.Filled.{filled}
 use Rattle.image.specs.Layout.{imageOf, placeOk, isImage}
-use Rattle.writer.specs.Writing.{joined, sheetBytes, writeFault, writeReply, bufferAfter}
+use Rattle.writer.specs.Writing.{joined, sheetBytes, writeFault, writeReply, bufferAfter, windowRecord, windowBytes}
 use Rattle.writer.specs.Kept.{writeNumberOn, needOn, bufferOn}
 
 -- what writing into a lent buffer comes to: the number, the length that is given, and the buffer
@@ -59,11 +59,23 @@ leftover = firstState (record {
   «event_count» = 1;
   rules = firstOn sheetA .plan .rules;
   «rule_count» = 0;
+  windows = firstOn sheetA .plan .windows;
 })
 
--- the longest sheet: 16 events and 16 conditionals
+-- windows on events 2 and 0, the latter before a rule; they are written after the rules, by event
+abbrev pub early : List ℕ
+early = 1 ∷ 0 ∷ 6 ∷ 7 ∷ 0 ∷ 2 ∷ 1 ∷ 0 ∷ 0 ∷ 1 ∷ 2 ∷ 3 ∷ 4 ∷ 1 ∷ 1 ∷ 6 ∷ 1 ∷ 1 ∷ 6 ∷ 7 ∷ 2 ∷ 0 ∷ 0 ∷ 0 ∷ 0 ∷ 1 ∷ 0 ∷ 0 ∷ 255 ∷ 2 ∷ 0 ∷ 1 ∷ 5 ∷ []
+
+abbrev pub sorted : List ℕ
+sorted = 1 ∷ 0 ∷ 6 ∷ 1 ∷ 1 ∷ 6 ∷ 1 ∷ 1 ∷ 6 ∷ 2 ∷ 0 ∷ 1 ∷ 7 ∷ 0 ∷ 2 ∷ 1 ∷ 0 ∷ 0 ∷ 1 ∷ 2 ∷ 3 ∷ 4 ∷ 7 ∷ 2 ∷ 0 ∷ 0 ∷ 0 ∷ 0 ∷ 1 ∷ 0 ∷ 0 ∷ 255 ∷ 5 ∷ []
+
+-- the longest sheet: 16 events, 16 conditionals and 16 windows
 abbrev pub longest : List ℕ
-longest = times 16 (1 ∷ 0 ∷ 7 ∷ []) ++ times 16 (4 ∷ 0 ∷ 1 ∷ 2 ∷ []) ++ (5 ∷ [])
+longest =
+    times 16 (1 ∷ 0 ∷ 7 ∷ [])
+    ++ times 16 (4 ∷ 0 ∷ 1 ∷ 2 ∷ [])
+    ++ joined (λ (e : ℕ). 7 ∷ e ∷ 0 ∷ 0 ∷ 0 ∷ 0 ∷ 1 ∷ 0 ∷ 0 ∷ 0 ∷ []) (tabulate 16 0 (λ e. e))
+    ++ (5 ∷ [])
 
 abbrev pub cases : List Case
 cases =
@@ -87,8 +99,11 @@ cases =
     ∷ (firstOn (6 ∷ 3 ∷ 5 ∷ []), own 13, 0, 13, 1 ∷ 3 ∷ 7 ∷ 1 ∷ 3 ∷ 0 ∷ 1 ∷ 3 ∷ 6 ∷ 1 ∷ 3 ∷ 1 ∷ 5 ∷ [])
     -- what stands past the counts is not written
     ∷ (leftover, own 5, 0, 4, 1 ∷ 0 ∷ 6 ∷ 5 ∷ 99 ∷ [])
-    -- 113 bytes are the most
-    ∷ (firstOn longest, own 113, 0, 113, longest)
+    -- windows after the rules, by event
+    ∷ (firstOn early, own 34, 0, 33, sorted ++ own 1)
+    ∷ (firstOn sorted, own 32, 14, 33, own 32)
+    -- 273 bytes are the most
+    ∷ (firstOn longest, own 273, 0, 273, longest)
     -- 12, and 12 before 14: event 0 is held and cannot wait
     ∷ (hold (firstOn sheetD) 0, own 10, 12, 0, own 10)
     ∷ (hold (firstOn sheetD) 0, own 9, 12, 0, own 9)
@@ -97,7 +112,7 @@ cases =
 
 -- the joint proof
 pub written : map (λ (c : Case). outcome (c .0) (c .1)) cases ≡ map (λ (c : Case). (c .2, c .3, c .4)) cases
-unfolding outcome tabulate anyBelow allBelow firstOf lowest hold settleAs shut breakRule named enforceable soundEvent
+unfolding outcome allowedAt allowedIn overAt overIn ruledOut soundWindow soundWindows badWindow addWindow windowRecord windowBytes tabulate anyBelow allBelow firstOf lowest hold settleAs shut breakRule named enforceable soundEvent
     soundRule unstoppable reckoned triggered bars makesWait forbids owes barred forbidden owing fatesIn anyDone doneIn doneInTurn holds ready mayDo
     doAll orderOf chosen toRefuse toDo settleOnce settleUpTo settle strains recordBroken doAlone decide submit lapse
     closeStep refuseHeld finish firstFault declaredOnly sameFates listedAs coherentEvent coherentRule coherent hasEvent

@@ -3,10 +3,10 @@ use Prim.Native.Nat.{ℕ, _<_}
 use native.Mathlib.Nat.{zero-add}
 use mathlib.Core.Path.{_≡_, _∙_, ap}
 use lib.ListN.{length, getD}
-use Rattle.plan.specs.Plans.{blankEvent, blankRule, eventCount, ruleCount, eventAt, ruleAt}
+use Rattle.plan.specs.Plans.{blankEvent, blankRule, blankWindow, eventCount, ruleCount, eventAt, ruleAt, windowAt}
 use Rattle.theory.proofs.Observation.{length-tabulate, getD-tabulate}
 use Rattle.writer.specs.Types.{Plan}
-use Rattle.writer.specs.Writing.{eventsOf, rulesOf}
+use Rattle.writer.specs.Writing.{eventsOf, rulesOf, windowsOf}
 
 module _ (p : Plan) where
   pub events-count : length (eventsOf p) ≡ eventCount p
@@ -14,6 +14,13 @@ module _ (p : Plan) where
 
   pub rules-count : length (rulesOf p) ≡ ruleCount p
   rules-count = length-tabulate (ruleCount p) 0 (λ i. ruleAt p i)
+
+  pub windows-count : length (windowsOf p) ≡ eventCount p
+  windows-count = length-tabulate (eventCount p) 0 (λ e. windowAt p e)
+
+  pub window-said : (k : ℕ) → k < eventCount p → getD (windowsOf p) k blankWindow ≡ windowAt p k
+  window-said k lt =
+      getD-tabulate (eventCount p) 0 (λ e. windowAt p e) k blankWindow lt ∙ ap (λ (e : ℕ). windowAt p e) (zero-add k)
 
   pub event-said : (k : ℕ) → k < eventCount p → getD (eventsOf p) k blankEvent ≡ eventAt p k
   event-said k lt =

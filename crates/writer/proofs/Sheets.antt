@@ -5,9 +5,9 @@ use native.Mathlib.Omega.{arith}
 use borrow.Author.Tests.{not-true, le-ltb}
 use mathlib.Core.Bool.{true, not}
 use mathlib.Core.List.{List, [], _∷_, _++_, map}
-use mathlib.Core.Path.{_≡_, refl, sym, _∙_, ap}
+use mathlib.Core.Path.{_≡_, refl, sym, _∙_, ap, subst}
 use lib.ListN.{length, getD, length-append, length-map}
-use Rattle.plan.specs.Plans.{blankEvent, blankRule, eventCount, ruleCount, ruleAt, stepOf, attributesOf}
+use Rattle.plan.specs.Plans.{blankEvent, blankRule, blankWindow, eventCount, ruleCount, ruleAt, windowAt, stepOf, attributesOf, holdsBit}
 use Rattle.plan.specs.Fates.{blankStanding}
 use Rattle.plan.specs.Rules.{badStep, badAttributes, named, enforceable, soundEvent}
 use Rattle.plan.specs.Records.{addEvents, declare}
@@ -22,17 +22,18 @@ use Rattle.theory.proofs.Demands.{admitted-coherent}
 use Rattle.theory.proofs.SheetPlans.{sheet-first, sheet-read}
 use Rattle.theory.proofs.SoundPlans.{Sound, rule-named, rule-enforced, same-enforced}
 use Rattle.theory.proofs.Coherence.{coherent-sound}
-use Rattle.writer.specs.Types.{Standing, Event, Rule, RuleLine, Plan, Record, State, Reading}
-use Rattle.writer.specs.Writing.{eventsOf, rulesOf, eventRecord, ruleRecord, joined, sheetBytes, sheetLength, plain, SameDeclared, ReadBack}
-use Rattle.writer.proofs.Declared.{events-count, rules-count, event-said, rule-said}
+use Rattle.writer.specs.Types.{Standing, Event, Rule, RuleLine, Window, Plan, Record, State, Reading}
+use Rattle.writer.specs.Writing.{eventsOf, rulesOf, windowsOf, eventRecord, ruleRecord, windowBytes, joined, sheetBytes, sheetLength, plain, SameDeclared, ReadBack}
+use Rattle.writer.proofs.Declared.{events-count, rules-count, windows-count, event-said, rule-said, window-said}
 use Rattle.writer.proofs.Joining.{sheet-parts, sheet-short}
-use Rattle.writer.proofs.Padded.{lineOf, made, plain-made, plain-same, made-attributes, plain-is}
-use Rattle.writer.proofs.ReadingBack.{Fine, drop-next, read-events, read-rules, read-last}
+use Rattle.writer.proofs.Padded.{lineOf, made, plain-made, plain-same, made-attributes, sound-blank, sound-timed, plain-is}
+use Rattle.writer.proofs.ReadingBack.{Fine, Timed, windowed, drop-next, read-events, read-rules, read-windows, read-last}
 
 -- what declares the same is written alike
 pub written-alike : (p q : Plan) → SameDeclared p q → sheetBytes p ≡ sheetBytes q
 unfolding sheetBytes
-written-alike p q same = λ i. joined eventRecord (same .events i) ++ joined ruleRecord (same .rules i) ++ (5 ∷ [])
+written-alike p q same = λ i.
+    joined eventRecord (same .events i) ++ joined ruleRecord (same .rules i) ++ windowBytes 0 (same .windows i) ++ (5 ∷ [])
 
 -- a sound plan's sheet
 module _ (p : Plan) (sd : Sound p) where
@@ -62,13 +63,31 @@ module _ (p : Plan) (sd : Sound p) where
       let below : k < ruleCount p = omega (arith, rules-count p) in
       (λ i. named (events-count p i) (rule-said p k below i)) ∙ rule-named sd k below
 
-  rule-holds : (k : ℕ) (ls : List RuleLine) → k < length rs → enforceable (made es ls) (getD rs k (blankRule .rule)) ≡ true
+  rule-holds : (k : ℕ) (ls : List RuleLine) → k < length rs → enforceable (made es ls []) (getD rs k (blankRule .rule)) ≡ true
   rule-holds k ls lt =
       let below : k < ruleCount p = omega (arith, rules-count p) in
-      let same = made-attributes p (sd .few-events) ls in
-      ap (enforceable (made es ls)) (rule-said p k below)
-      ∙ same-enforced p (made es ls) (eventCount p) same (ruleAt p k) (rule-named sd k below)
+      let same = made-attributes p (sd .few-events) ls [] in
+      ap (enforceable (made es ls [])) (rule-said p k below)
+      ∙ same-enforced p (made es ls []) (eventCount p) same (ruleAt p k) (rule-named sd k below)
       ∙ rule-enforced sd k below
+
+  abbrev us : List Window
+  us = windowsOf p
+
+  window-timed : (ls : List RuleLine) (k : ℕ) → k < length us → Timed (made es ls []) (0 + k) (getD us k blankWindow)
+  window-timed ls k lt =
+      let below : k < eventCount p = omega (arith, windows-count p) in
+      let sound = sd .window k (omega (arith, sd .few-events)) in
+      let said = window-said p k below in
+      let here : k ≡ 0 + k = omega arith in
+      let attributes = made-attributes p (sd .few-events) ls [] k below in
+      let timed : Timed (made es ls []) k (windowAt p k) = record {
+        blank = sound-blank p k sound;
+        waits = λ h. ap (holdsBit 4) attributes ∙ sound-timed p k sound h .1;
+        ahead = λ h. sound-timed p k sound h .2;
+      } in
+      subst (λ (e : ℕ). Timed (made es ls []) e (getD us k blankWindow)) here
+      (subst (λ (w : Window). Timed (made es ls []) k w) (sym said) timed)
 
   abbrev bytes : List ℕ
   bytes = sheetBytes p
@@ -79,18 +98,23 @@ module _ (p : Plan) (sd : Sound p) where
       let evs = joined eventRecord es in
       let rls = joined ruleRecord rs in
       let ls = map lineOf rs in
-      let enough = length es + (length rs + suc (length bytes)) in
-      let middle = drop-next bytes 0 evs (rls ++ (5 ∷ [])) (0 + length evs) (sheet-parts p) refl in
-      let last = drop-next bytes (0 + length evs) rls (5 ∷ []) (0 + length evs + length rls) middle refl in
-      let size : 0 + length evs + length rls + 1 ≡ length bytes =
-      omega (arith, ap length (sheet-parts p), length-append evs (rls ++ (5 ∷ [])), length-append rls (5 ∷ [])) in
+      let tms = windowBytes 0 us in
+      let past = windowed us + suc (length bytes) in
+      let enough = length es + (length rs + past) in
+      let middle = drop-next bytes 0 evs (rls ++ (tms ++ (5 ∷ []))) (0 + length evs) (sheet-parts p) refl in
+      let late = drop-next bytes (0 + length evs) rls (tms ++ (5 ∷ [])) (0 + length evs + length rls) middle refl in
+      let last = drop-next bytes (0 + length evs + length rls) tms (5 ∷ []) (0 + length evs + length rls + length tms) late refl in
+      let size : 0 + length evs + length rls + length tms + 1 ≡ length bytes =
+      omega (arith, ap length (sheet-parts p), length-append evs (rls ++ (tms ++ (5 ∷ []))), length-append rls (tms ++ (5 ∷ [])), length-append tms (5 ∷ [])) in
+      let lasting : length us ≤ length es = omega (arith, windows-count p, events-count p) in
       let few : length es ≤ 16 = omega (arith, events-count p, sd .few-events) in
       let few-rules : length rs ≤ 16 = omega (arith, rules-count p, sd .few-rules) in
       let few-lines : length ls ≤ 16 = omega (arith, length-map rs lineOf) in
       sym (read-enough enough bytes (omega arith))
-      ∙ read-events bytes es [] (length rs + suc (length bytes)) 0 (rls ++ (5 ∷ [])) (sheet-parts p) (omega arith) event-fine
-      ∙ read-rules bytes rs es [] (suc (length bytes)) (0 + length evs) (5 ∷ []) middle few (omega arith) rule-names rule-holds
-      ∙ read-last bytes (length bytes) (0 + length evs + length rls) (made es ls) few few-lines last
+      ∙ read-events bytes es [] (length rs + past) 0 (rls ++ (tms ++ (5 ∷ []))) (sheet-parts p) (omega arith) event-fine
+      ∙ read-rules bytes rs es [] past (0 + length evs) (tms ++ (5 ∷ [])) middle few (omega arith) rule-names rule-holds
+      ∙ read-windows bytes es ls few few-lines us [] 0 (suc (length bytes)) (0 + length evs + length rls) (5 ∷ []) refl late (omega arith) (window-timed ls)
+      ∙ read-last bytes (length bytes) (0 + length evs + length rls + length tms) (made es ls us) few few-lines last
       ∙ (λ i. whole (plain-made p i) (size i))
 
   sheet-reads : readSheet bytes ≡ admitted (firstState (plain p))
@@ -132,14 +156,15 @@ alike-declared s t h k same =
     record {
       events = sym (one .same .events) ∙ ap eventsOf plans ∙ other .same .events;
       rules = sym (one .same .rules) ∙ ap rulesOf plans ∙ other .same .rules;
+      windows = sym (one .same .windows) ∙ ap windowsOf plans ∙ other .same .windows;
     }
 
 -- a record of kind 6 declares what four records of kind 1 on its step do
 abbrev pub kindOne : ℕ → ℕ → Record
-kindOne k a = record { kind = 1; x = k; y = a; z = 0 }
+kindOne k a = record { kind = 1; x = k; y = a; z = 0; from = 0; until = 0 }
 
-pub four-events : (p : Plan) (k y z : ℕ)
-    → declare p (record { kind = 6; x = k; y = y; z = z })
+pub four-events : (p : Plan) (k y z m n : ℕ)
+    → declare p (record { kind = 6; x = k; y = y; z = z; from = m; until = n })
     ≡ declare (declare (declare (declare p (kindOne k 7)) (kindOne k 0)) (kindOne k 6)) (kindOne k 1)
 unfolding declare addEvents
-four-events p k y z = refl
+four-events p k y z m n = refl

@@ -36,12 +36,14 @@ overfull s = record {
     «event_count» = 17;
     rules = s .plan .rules;
     «rule_count» = ruleCount (s .plan);
+    windows = s .plan .windows;
   };
   standings = s .standings;
   broken = s .broken;
   closed = s .closed;
   history = s .history;
   «history_len» = lineCount s;
+  minute = s .minute;
 }
 
 -- the state that bytes say; one that fails number 12 where they are no image

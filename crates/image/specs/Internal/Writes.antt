@@ -3,13 +3,13 @@ use Prim.Native.Nat.{ℕ, zero, suc, _+_}
 use mathlib.Core.Bool.{Bool, false}
 use mathlib.Core.List.{List, [], _∷_}
 use lib.ListN.{getD, set}
-use Rattle.image.specs.Types.{Event, RuleLine, Standing, Plan, Entry, State}
+use Rattle.image.specs.Types.{Event, RuleLine, Window, Standing, Plan, Entry, State}
 use Rattle.plan.specs.Base.{oneIf}
 use Rattle.plan.specs.Fates.{fateNumber, blankStanding}
-use Rattle.plan.specs.Plans.{eventCount, ruleCount, blankEvent, blankRule}
+use Rattle.plan.specs.Plans.{eventCount, ruleCount, blankEvent, blankRule, blankWindow}
 use Rattle.plan.specs.Histories.{blankEntry}
 use Rattle.scheduler.specs.State.{lineCount}
-use Rattle.image.specs.Layout.{stepAt, attributesAt, kindAt, aAt, bAt, cAt, fateAt, markAt, shutAt, lineEventAt, lineFateAt, ruleKind, ruleA, ruleB, ruleC}
+use Rattle.image.specs.Layout.{stepAt, attributesAt, kindAt, aAt, bAt, cAt, fateAt, markAt, shutAt, lineEventAt, lineFateAt, minuteAt, fromAt, untilAt, ruleKind, ruleA, ruleB, ruleC, wordByte, rowByte}
 
 -- the bytes with g 0, g 1, .. in the n places from `at` on
 unfoldable pub putTo : ℕ → (ℕ → ℕ) → List ℕ → ℕ → List ℕ
@@ -51,6 +51,12 @@ bByte l i = ruleB (getD l i blankRule .rule)
 abbrev pub cByte : List RuleLine → ℕ → ℕ
 cByte l i = ruleC (getD l i blankRule .rule)
 
+abbrev pub fromByte : List Window → ℕ → ℕ
+fromByte l i = rowByte (λ e. getD l e blankWindow .from) i
+
+abbrev pub untilByte : List Window → ℕ → ℕ
+untilByte l i = rowByte (λ e. getD l e blankWindow .until) i
+
 abbrev pub fateByte : List Standing → ℕ → ℕ
 fateByte l i = fateNumber (getD l i blankStanding .fate)
 
@@ -75,6 +81,8 @@ planRows p =
     ∷ sixteen aAt (aByte (p .rules))
     ∷ sixteen bAt (bByte (p .rules))
     ∷ sixteen cAt (cByte (p .rules))
+    ∷ record { at = fromAt; len = 64; byte = fromByte (p .windows) }
+    ∷ record { at = untilAt; len = 64; byte = untilByte (p .windows) }
     ∷ []
 
 -- the rows that a call may change
@@ -86,6 +94,7 @@ callRows s =
     ∷ record { at = shutAt; len = 8; byte = markByte (s .closed) }
     ∷ sixteen lineEventAt (lineEventByte (s .history))
     ∷ sixteen lineFateAt (lineFateByte (s .history))
+    ∷ record { at = minuteAt; len = 4; byte = wordByte (s .minute) }
     ∷ []
 
 -- the plan written over bytes, and what a call may change

@@ -5,7 +5,7 @@ use mathlib.Core.List.{List}
 use mathlib.Core.Path.{_≡_}
 use lib.ListN.{length, drop}
 use Rattle.plan.specs.Base.{oneIf}
-use Rattle.plan.specs.Calls.{Decoded, decode}
+use Rattle.plan.specs.Calls.{Decoded}
 use Rattle.scheduler.specs.State.{Sized}
 use Rattle.scheduler.specs.Coherent.{coherent}
 use Rattle.scheduler.specs.Lists.{scheduler, after, turnedDown}
@@ -20,11 +20,11 @@ outcomeFrom s n d = record {
   refused = n + (turnedDown s (d .calls) + oneIf (d .cut));
 }
 
--- the loop, at a state and an offset, with n calls turned down: what is left comes to the whole run, no more calls are
--- counted than bytes are passed, and the state passes number 12
-pub record Underway (s : State) (b : List ℕ) (t : State) (at n : ℕ) : Type 0 where
+-- the loop over bytes of some decoding, at a state and an offset, with n calls turned down: what is left comes to the
+-- whole run, no more calls are counted than bytes are passed, and the state passes number 12
+pub record Underway (decoding : List ℕ → Decoded) (s : State) (b : List ℕ) (t : State) (at n : ℕ) : Type 0 where
   pub inside : at ≤ length b
-  pub same : outcomeFrom t n (decode (drop at b)) ≡ ranOn s (decode b)
+  pub same : outcomeFrom t n (decoding (drop at b)) ≡ ranOn s (decoding b)
   pub few : n ≤ at
   pub passes : coherent t ≡ true
   pub sized : Sized t

@@ -5,11 +5,11 @@ use mathlib.Core.List.{[], _∷_}
 use mathlib.Core.Option.{Option, none, some}
 use lib.Dec.{eqb, ltb}
 use Rattle.plan.specs.Plans.{eventCount, ruleCount}
-use Rattle.plan.specs.Rules.{badStep, badAttributes, named, enforceable}
+use Rattle.plan.specs.Rules.{badStep, badAttributes, badWindow, named, enforceable}
 use Rattle.plan.specs.Faults.{firstFault}
-use Rattle.plan.specs.Records.{newEvents, newRules, isRule, ruleOf, recordFault}
+use Rattle.plan.specs.Records.{newEvents, newRules, isRule, ruleOf, addWindow, addEvents, table1, recordFault}
 use Rattle.scheduler.specs.State.{firstState, emptyState}
-use Rattle.sheet.specs.Types.{Event, Rule, RuleLine, Plan, Record, SheetFault, BadStep, BadAttributes, BadNames, Unenforceable, Extra, Verdict, Admitted, Faulty, Reading, Check, Fine, Bad, Judged}
+use Rattle.sheet.specs.Types.{Event, Rule, RuleLine, Plan, Record, SheetFault, BadStep, BadAttributes, BadNames, Unenforceable, Extra, BadWindow, Verdict, Admitted, Faulty, Reading, Check, Fine, Bad, Judged}
 
 -- row 3; rows 6 and 7 of a rule; the rows from 4 on
 abbrev pub isFull : Plan → ℕ → Bool
@@ -26,6 +26,7 @@ bodyFault p r =
     ∷ (eqb (r .kind) 1 && badAttributes (r .y), BadAttributes)
     ∷ (isRule (r .kind) && not (named (eventCount p) (ruleOf r)), BadNames)
     ∷ (isRule (r .kind) && not (enforceable p (ruleOf r)), Unenforceable)
+    ∷ (eqb (r .kind) 7 && badWindow p (r .x) (r .from) (r .until), BadWindow)
     ∷ [])
 
 -- a check's answer: the first fault, or none
@@ -43,6 +44,13 @@ eventOf r = record { step = r .x; attributes = r .y }
 
 abbrev pub lineOf : Record → RuleLine
 lineOf r = record { rule = ruleOf r }
+
+-- what a record of kind 6 or 7 declares
+unfoldable pub addMore : Plan → Record → Plan
+addMore p r = elim (eqb (r .kind) 6) [
+  | true ↦ addEvents p (r .x) table1
+  | false ↦ addWindow p (r .x) (r .from) (r .until)
+]
 
 -- bytes after kind 5
 abbrev pub endVerdict : ℕ → ℕ → Verdict

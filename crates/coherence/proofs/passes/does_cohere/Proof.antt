@@ -1,7 +1,8 @@
 -- `does_cohere` meets its contract.
 use borrow.Author.Needs.{needs}
 use borrow.Author.Tests.{not-true, not-false}
-use mathlib.Core.Path.{sym, _∙_}
+use mathlib.Core.Bool.{Bool, _&&_}
+use mathlib.Core.Path.{sym, _∙_, ap₂}
 use lib.ListN.{take}
 use Rattle.plan.specs.Fates.{fatesOf}
 use Rattle.coherence.proofs.CoherentTests.{many-fail, few-events, few-rules, lines-fail, events-fail, rules-decide}
@@ -42,12 +43,16 @@ are-rules-coherent-requires c κs =
       few-rules (s .args .plan) (s .args .len) few,
     )
 
+are-windows-sound-requires : tie.Need-are-windows-sound-requires
+are-windows-sound-requires c κs = tt
+
 returns-4 : tie.Need-returns-4
-returns-4 c =
+returns-4 d =
+    let c = d .before in
     let s = c .before .before .before .before .before .before .before .before .before in
     let told = c .before .before .before .before .before .before .before .list-events .ensures .passes (not-false _ (c .before .before .before .before .before .if2 .left)) in
     let pass = not-false _ (rw (c .before .before .are-events-coherent .ensures _ (told .events)) at (c .before .if3 .left)) in
-    c .are-rules-coherent .ensures _ _ (told .placed) pass
+    ap₂ (λ (a b : Bool). a && b) (c .are-rules-coherent .ensures _ _ (told .placed) pass) (d .are-windows-sound .ensures)
     ∙ sym (rules-decide (s .args .plan) (s .args .len) (fatesOf (s .args .standings)) (s .args .broken) (s .args .closed) (take (s .args .len) (s .args .history))
     (c .before .before .before .before .before .before .before .before .if1 .left) (told .declared) pass)
 
@@ -61,4 +66,5 @@ does-cohere-spec =
     are-events-coherent-requires
     returns-3
     are-rules-coherent-requires
+    are-windows-sound-requires
     returns-4)

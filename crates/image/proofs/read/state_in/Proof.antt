@@ -19,14 +19,17 @@ closed-in-requires c κs = search needs
 history-in-requires : tie.Need-history-in-requires
 history-in-requires c κs = search needs
 
+word-in-requires : tie.Need-word-in-requires
+word-in-requires c κs = search needs
+
 element-copy-out-history-len : tie.Need-element-copy-out-history-len
 element-copy-out-history-len c = search needs
 
 returns : tie.Need-returns
 unfolding stateIn
 returns c =
-    let m = c .before .before .before in
-    simp (m .before .before .plan-in .ensures, m .before .standings-in .ensures, m .broken-in .ensures, c .before .before .closed-in .ensures, c .before .history-in .ensures)
+    let m = c .before .before .before .before in
+    simp (m .before .before .plan-in .ensures, m .before .standings-in .ensures, m .broken-in .ensures, c .before .before .before .closed-in .ensures, c .before .before .history-in .ensures, c .before .word-in .ensures)
 
 pub state-in-spec : {M : Type 1} → statement M
 state-in-spec =
@@ -37,5 +40,6 @@ state-in-spec =
     broken-in-requires
     closed-in-requires
     history-in-requires
+    word-in-requires
     element-copy-out-history-len
     returns)

@@ -16,9 +16,12 @@ are-closings-requires c κs = search needs
 is-rest-spare-requires : tie.Need-is-rest-spare-requires
 is-rest-spare-requires c κs = search needs
 
+are-words-requires : tie.Need-are-words-requires
+are-words-requires c κs = search needs
+
 returns : tie.Need-returns
 unfolding isImage
-returns c = simp (c .before .before .are-places .ensures, c .before .are-closings .ensures, c .is-rest-spare .ensures)
+returns c = simp (c .before .before .before .are-places .ensures, c .before .before .are-closings .ensures, c .before .is-rest-spare .ensures, c .are-words .ensures)
 
 pub is-image-spec : {M : Type 1} → statement M
 is-image-spec =
@@ -28,4 +31,5 @@ is-image-spec =
     are-places-requires
     are-closings-requires
     is-rest-spare-requires
+    are-words-requires
     returns)

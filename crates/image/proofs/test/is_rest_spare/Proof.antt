@@ -10,10 +10,10 @@ use Rattle.image.proofs.test.is_rest_spare.Statement.{statement}
 use Rattle.image.proofs.test.is_rest_spare.Tie as tie
 
 abbrev Inv-loop : tie.InvT-loop
-Inv-loop image ok₀ i₀ ok i = (i ≤ 212) × (ok ≡ allBelow i (λ k. eqb (byteAt image (spareAt + k)) 0))
+Inv-loop image ok₀ i₀ ok i = (i ≤ 80) × (ok ≡ allBelow i (λ k. eqb (byteAt image (spareAt + k)) 0))
 
 abbrev μ-loop : tie.MeasureT-loop
-μ-loop image ok₀ i₀ ok i = 212 - i
+μ-loop image ok₀ i₀ ok i = 80 - i
 
 loop-holds : tie.Need-loop-holds Inv-loop μ-loop
 loop-holds c = (omega arith, all-none _)
@@ -34,7 +34,7 @@ loop-again : tie.Need-loop-again Inv-loop μ-loop
 loop-again c = (omega arith, all-next (λ k. eqb (byteAt (c .before .before .before .args .image .now) (spareAt + k)) 0) _ _ _ (c .before .before .loop .inv .1) refl)
 
 returns : tie.Need-returns Inv-loop μ-loop
-returns c = all-all _ 212 (c .before .loop .i) _ (c .before .loop .inv .0) (c .loop-test .left) (c .before .loop .inv .1)
+returns c = all-all _ 80 (c .before .loop .i) _ (c .before .loop .inv .0) (c .loop-test .left) (c .before .loop .inv .1)
 
 pub is-rest-spare-spec : {M : Type 1} → statement M
 is-rest-spare-spec =

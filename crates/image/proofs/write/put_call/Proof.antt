@@ -22,13 +22,17 @@ put-line-events-requires c κs = search needs
 put-line-fates-requires : tie.Need-put-line-fates-requires
 put-line-fates-requires c κs = search needs
 
+put-word-requires : tie.Need-put-word-requires
+put-word-requires c κs = search needs
+
 returns : tie.Need-returns
-returns c = put-call-rows _ _ _ _ _ _ _
-    (c .before .before .before .before .before .before .before .before .put-fates .ensures)
-    (c .before .before .before .before .before .before .put-marks .ensures)
-    (c .before .before .before .before .put-closings .ensures)
-    (c .before .before .put-line-events .ensures)
-    (c .put-line-fates .ensures)
+returns c = put-call-rows _ _ _ _ _ _ _ _
+    (c .before .before .before .before .before .before .before .before .before .before .put-fates .ensures)
+    (c .before .before .before .before .before .before .before .before .put-marks .ensures)
+    (c .before .before .before .before .before .before .put-closings .ensures)
+    (c .before .before .before .before .put-line-events .ensures)
+    (c .before .before .put-line-fates .ensures)
+    (c .put-word .ensures)
 
 pub put-call-spec : {M : Type 1} → statement M
 put-call-spec =
@@ -40,4 +44,5 @@ put-call-spec =
     put-closings-requires
     put-line-events-requires
     put-line-fates-requires
+    put-word-requires
     returns)

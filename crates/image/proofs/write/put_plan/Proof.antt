@@ -31,14 +31,22 @@ put-seconds-requires c κs = search needs
 put-thirds-requires : tie.Need-put-thirds-requires
 put-thirds-requires c κs = search needs
 
+put-froms-requires : tie.Need-put-froms-requires
+put-froms-requires c κs = search needs
+
+put-untils-requires : tie.Need-put-untils-requires
+put-untils-requires c κs = search needs
+
 returns : tie.Need-returns
-returns c = put-plan-rows _ _ _ _ _ _ _ _
-    (c .before .before .before .before .before .before .before .before .before .before .put-steps .ensures)
-    (c .before .before .before .before .before .before .before .before .put-attributes .ensures)
-    (c .before .before .before .before .before .before .put-kinds .ensures)
-    (c .before .before .before .before .put-firsts .ensures)
-    (c .before .before .put-seconds .ensures)
-    (c .put-thirds .ensures)
+returns c = put-plan-rows _ _ _ _ _ _ _ _ _ _
+    (c .before .before .before .before .before .before .before .before .before .before .before .before .before .before .put-steps .ensures)
+    (c .before .before .before .before .before .before .before .before .before .before .before .before .put-attributes .ensures)
+    (c .before .before .before .before .before .before .before .before .before .before .put-kinds .ensures)
+    (c .before .before .before .before .before .before .before .before .put-firsts .ensures)
+    (c .before .before .before .before .before .before .put-seconds .ensures)
+    (c .before .before .before .before .put-thirds .ensures)
+    (c .before .before .put-froms .ensures)
+    (c .put-untils .ensures)
 
 pub put-plan-spec : {M : Type 1} → statement M
 put-plan-spec =
@@ -53,4 +61,6 @@ put-plan-spec =
     put-firsts-requires
     put-seconds-requires
     put-thirds-requires
+    put-froms-requires
+    put-untils-requires
     returns)

@@ -7,7 +7,8 @@ use mathlib.Core.Bool.{false}
 use mathlib.Core.Logic.{inl, inr}
 use mathlib.Core.Path.{refl, sym, _∙_, ap}
 use lib.ListN.{length}
-use Rattle.plan.specs.Calls.{callSize}
+use Rattle.plan.specs.Calls.{callSize, decode}
+use Rattle.plan.proofs.CallDecoding.{decodes}
 use Rattle.plan.proofs.Arrays.{read-in}
 use Rattle.scheduler.proofs.CallSteps.{fate-in}
 use Rattle.lists.specs.Types.{State}
@@ -21,7 +22,7 @@ Inv-loop state calls from before unclosed plan standings closed at₀ refused₀
     (from ≤ at)
     × (at ≤ length calls)
     × (refused ≤ at)
-    × ((s : State) → Underway s calls state from before → Underway s calls state at refused)
+    × ((s : State) → Underway decode s calls state from before → Underway decode s calls state at refused)
 
 abbrev μ-loop : tie.MeasureT-loop
 μ-loop state calls from before unclosed plan standings closed at₀ refused₀ at refused = length calls - at
@@ -61,21 +62,21 @@ add-refused c =
     let r = c .before .before .before .before .before .before in
     let at = r .before .before .before .loop in
     let size = ap callSize (c .before .before .before .made .given .1) in
-    omega (arith, size, at .inv .2, record-fits _ (at .at) (at .inv .1) _ (r .before .before .call-at .ensures) _ (r .read .given .1))
+    omega (arith, size, at .inv .2, record-fits decodes _ (at .at) (at .inv .1) _ (r .before .before .call-at .ensures) _ (r .read .given .1))
 
 add-at : tie.Need-add-at Inv-loop μ-loop
 add-at c =
     let r = c .before .before .before .before .before .before in
     let at = r .before .before .before .loop in
     let size = ap callSize (c .before .before .before .made .given .1) in
-    omega (arith, size, record-fits _ (at .at) (at .inv .1) _ (r .before .before .call-at .ensures) _ (r .read .given .1))
+    omega (arith, size, record-fits decodes _ (at .at) (at .inv .1) _ (r .before .before .call-at .ensures) _ (r .read .given .1))
 
 loop-less : tie.Need-loop-less Inv-loop μ-loop
 loop-less c =
     let r = c .before .before .before .before .before .before in
     let at = r .before .before .before .loop in
     let size = ap callSize (c .before .before .before .made .given .1) in
-    omega (arith, size, record-fits _ (at .at) (at .inv .1) _ (r .before .before .call-at .ensures) _ (r .read .given .1))
+    omega (arith, size, record-fits decodes _ (at .at) (at .inv .1) _ (r .before .before .call-at .ensures) _ (r .read .given .1))
 
 loop-again : tie.Need-loop-again Inv-loop μ-loop
 loop-again c =
@@ -85,7 +86,7 @@ loop-again c =
     let k = c .before .before .before .made .given in
     let t = c .before .before .before .before .before .before .before .before .before .before .before .before .before .before .before .args .state in
     let size = ap callSize (k .1) in
-    let fits = record-fits _ (at .at) (at .inv .1) _ is _ h in
+    let fits = record-fits decodes _ (at .at) (at .inv .1) _ is _ h in
     elim (c .if1 .came) [
       | inl w ↦
           let opened = fate-in t _ (w .3 .result) (w .1 .left) (w .3 .ensures) in (
@@ -122,21 +123,21 @@ add-refused-2 c =
     let r = c .before .before .before .before .before .before in
     let at = r .before .before .before .loop in
     let size = ap callSize (c .before .before .before .made2 .given .1) in
-    omega (arith, size, at .inv .2, record-fits _ (at .at) (at .inv .1) _ (r .before .before .call-at .ensures) _ (r .read .given .1))
+    omega (arith, size, at .inv .2, record-fits decodes _ (at .at) (at .inv .1) _ (r .before .before .call-at .ensures) _ (r .read .given .1))
 
 add-at-2 : tie.Need-add-at-2 Inv-loop μ-loop
 add-at-2 c =
     let r = c .before .before .before .before .before .before in
     let at = r .before .before .before .loop in
     let size = ap callSize (c .before .before .before .made2 .given .1) in
-    omega (arith, size, record-fits _ (at .at) (at .inv .1) _ (r .before .before .call-at .ensures) _ (r .read .given .1))
+    omega (arith, size, record-fits decodes _ (at .at) (at .inv .1) _ (r .before .before .call-at .ensures) _ (r .read .given .1))
 
 loop-less-2 : tie.Need-loop-less-2 Inv-loop μ-loop
 loop-less-2 c =
     let r = c .before .before .before .before .before .before in
     let at = r .before .before .before .loop in
     let size = ap callSize (c .before .before .before .made2 .given .1) in
-    omega (arith, size, record-fits _ (at .at) (at .inv .1) _ (r .before .before .call-at .ensures) _ (r .read .given .1))
+    omega (arith, size, record-fits decodes _ (at .at) (at .inv .1) _ (r .before .before .call-at .ensures) _ (r .read .given .1))
 
 loop-again-2 : tie.Need-loop-again-2 Inv-loop μ-loop
 loop-again-2 c =
@@ -146,7 +147,7 @@ loop-again-2 c =
     let k = c .before .before .before .made2 .given in
     let t = c .before .before .before .before .before .before .before .before .before .before .before .before .before .before .before .args .state in
     let size = ap callSize (k .1) in
-    let fits = record-fits _ (at .at) (at .inv .1) _ is _ h in
+    let fits = record-fits decodes _ (at .at) (at .inv .1) _ is _ h in
     let shut = read-in 8 (t .closed) (k .0 .0) false (c .before .if4 .left) ∙ not-false _ (c .if5 .left) in (
       omega arith,
       omega (arith, size, fits),
@@ -162,7 +163,7 @@ add-refused-3 c =
     let r = c .before .before .before .before in
     let at = r .before .before .before .loop in
     let size = ap callSize (c .before .enum-told .given .1) in
-    omega (arith, size, at .inv .2, record-fits _ (at .at) (at .inv .1) _ (r .before .before .call-at .ensures) _ (r .read .given .1))
+    omega (arith, size, at .inv .2, record-fits decodes _ (at .at) (at .inv .1) _ (r .before .before .call-at .ensures) _ (r .read .given .1))
 
 is-idle-requires : tie.Need-is-idle-requires Inv-loop μ-loop
 is-idle-requires c κs = tt
@@ -175,14 +176,14 @@ add-at-3 c =
     let r = c .before .before .before .before in
     let at = r .before .before .before .loop in
     let size = ap callSize (c .before .enum-told .given .1) in
-    omega (arith, size, record-fits _ (at .at) (at .inv .1) _ (r .before .before .call-at .ensures) _ (r .read .given .1))
+    omega (arith, size, record-fits decodes _ (at .at) (at .inv .1) _ (r .before .before .call-at .ensures) _ (r .read .given .1))
 
 loop-less-3 : tie.Need-loop-less-3 Inv-loop μ-loop
 loop-less-3 c =
     let r = c .before .before .before .before in
     let at = r .before .before .before .loop in
     let size = ap callSize (c .before .enum-told .given .1) in
-    omega (arith, size, record-fits _ (at .at) (at .inv .1) _ (r .before .before .call-at .ensures) _ (r .read .given .1))
+    omega (arith, size, record-fits decodes _ (at .at) (at .inv .1) _ (r .before .before .call-at .ensures) _ (r .read .given .1))
 
 loop-again-3 : tie.Need-loop-again-3 Inv-loop μ-loop
 loop-again-3 c =
@@ -192,7 +193,7 @@ loop-again-3 c =
     let k = c .before .enum-told .given .1 in
     let told = c .before .before .before .before .before .before .before .before .before .before .before .turns-down .ensures in
     let size = ap callSize k in
-    let fits = record-fits _ (at .at) (at .inv .1) _ is _ h in
+    let fits = record-fits decodes _ (at .at) (at .inv .1) _ is _ h in
     elim (c .if6 .came) [
       | inl w ↦ (
         omega arith,
@@ -209,17 +210,23 @@ loop-again-3 c =
           )
     ]
 
+enum-known-made-3 : tie.Need-enum-known-made-3 Inv-loop μ-loop
+enum-known-made-3 c = search needs
+
+returns-6 : tie.Need-returns-6 Inv-loop μ-loop
+returns-6 c = let at = c .before .before .before .before .before .before .before .loop in (at .inv .0, at .inv .3)
+
 enum-told-2 : tie.Need-enum-told-2 Inv-loop μ-loop
 enum-told-2 c = search needs
 
-returns-6 : tie.Need-returns-6 Inv-loop μ-loop
-returns-6 c = (c .before .before .before .loop .inv .0, c .before .before .before .loop .inv .3)
+returns-7 : tie.Need-returns-7 Inv-loop μ-loop
+returns-7 c = (c .before .before .before .loop .inv .0, c .before .before .before .loop .inv .3)
 
 enum-told-3 : tie.Need-enum-told-3 Inv-loop μ-loop
 enum-told-3 c = search needs
 
-returns-7 : tie.Need-returns-7 Inv-loop μ-loop
-returns-7 c = (c .before .before .before .loop .inv .0, c .before .before .before .loop .inv .3)
+returns-8 : tie.Need-returns-8 Inv-loop μ-loop
+returns-8 c = (c .before .before .before .loop .inv .0, c .before .before .before .loop .inv .3)
 
 pub skip-idle-spec : {M : Type 1} → statement M
 skip-idle-spec =
@@ -257,7 +264,9 @@ skip-idle-spec =
     add-at-3
     loop-less-3
     loop-again-3
-    enum-told-2
+    enum-known-made-3
     returns-6
+    enum-told-2
+    returns-7
     enum-told-3
-    returns-7)
+    returns-8)

@@ -5,6 +5,8 @@ use borrow.Author.Needs.{needs}
 use mathlib.Core.Logic.{inl, inr}
 use mathlib.Core.Path.{sym, _∙_}
 use lib.ListN.{length}
+use Rattle.plan.specs.Calls.{decode}
+use Rattle.plan.proofs.CallDecoding.{decodes}
 use Rattle.scheduler.proofs.Sizes.{sized}
 use Rattle.lists.specs.Internal.Underway.{Underway}
 use Rattle.lists.proofs.Running.{begun, inside-listed, less, again-refused, again-taken, ended, bad-ended, listed-room, bad-room}
@@ -12,13 +14,13 @@ use Rattle.lists.proofs.run.take_calls.Statement.{statement}
 use Rattle.lists.proofs.run.take_calls.Tie as tie
 
 abbrev Inv-loop : tie.InvT-loop
-Inv-loop calls verdict next₀ at₀ refused₀ next at refused = Underway next₀ calls next at refused
+Inv-loop calls verdict next₀ at₀ refused₀ next at refused = Underway decode next₀ calls next at refused
 
 abbrev μ-loop : tie.MeasureT-loop
 μ-loop calls verdict next₀ at₀ refused₀ next at refused = length calls - at
 
 loop-holds : tie.Need-loop-holds Inv-loop μ-loop
-loop-holds c = begun _ _ (c .before .pre) (sized _ (c .before .good .0))
+loop-holds c = begun _ _ _ (c .before .pre) (sized _ (c .before .good .0))
 
 skip-idle-requires : tie.Need-skip-idle-requires Inv-loop μ-loop
 skip-idle-requires c κs = (c .loop .inv .few, c .loop .inv .inside)
@@ -36,7 +38,7 @@ add-refused : tie.Need-add-refused Inv-loop μ-loop
 add-refused c =
     let r = c .before .before .before in
     let a = r .before .before in
-    omega (arith, listed-room (a .before .skip-idle .ensures .1 _ (a .before .before .loop .inv)) _ (a .call-at .ensures) _ (r .read .given .1))
+    omega (arith, listed-room decodes (a .before .skip-idle .ensures .1 _ (a .before .before .loop .inv)) _ (a .call-at .ensures) _ (r .read .given .1))
 
 after-call-requires : tie.Need-after-call-requires Inv-loop μ-loop
 after-call-requires c κs = tt
@@ -49,13 +51,13 @@ add-at c =
     let r = c .before .before .before .before in
     let a = r .before .before in
     let u = a .before .skip-idle .ensures .1 _ (a .before .before .loop .inv) in
-    omega (arith, inside-listed u _ (a .call-at .ensures) _ (r .read .given .1) _ (c .call-size .ensures))
+    omega (arith, inside-listed decodes u _ (a .call-at .ensures) _ (r .read .given .1) _ (c .call-size .ensures))
 
 loop-less : tie.Need-loop-less Inv-loop μ-loop
 loop-less c =
     let r = c .before .before .before .before in
     let a = r .before .before in
-    omega (arith, a .before .skip-idle .ensures .0, less (a .before .skip-idle .ensures .1 _ (a .before .before .loop .inv)) _ (a .call-at .ensures) _ (r .read .given .1) _ (c .call-size .ensures))
+    omega (arith, a .before .skip-idle .ensures .0, less decodes (a .before .skip-idle .ensures .1 _ (a .before .before .loop .inv)) _ (a .call-at .ensures) _ (r .read .given .1) _ (c .call-size .ensures))
 
 loop-again : tie.Need-loop-again Inv-loop μ-loop
 loop-again c =
@@ -68,8 +70,8 @@ loop-again c =
     let size = c .call-size .ensures in
     let test = sym (d .turns-down .ensures) in
     elim (c .before .if1 .came) [
-      | inl x ↦ again-refused u _ is _ h _ size _ _ (test ∙ x .0 .taken) (x .1) (x .2)
-      | inr x ↦ again-taken u _ is _ h _ size _ _ (test ∙ x .0 .left) (x .2 ∙ x .1 .ensures) (x .3)
+      | inl x ↦ again-refused decodes u _ is _ h _ size _ _ (test ∙ x .0 .taken) (x .1) (x .2)
+      | inr x ↦ again-taken decodes u _ is _ h _ size _ _ (test ∙ x .0 .left) (x .6 ∙ x .1 .ensures) (x .7)
     ]
 
 enum-told : tie.Need-enum-told Inv-loop μ-loop
@@ -78,20 +80,20 @@ enum-told c = search needs
 returns : tie.Need-returns Inv-loop μ-loop
 returns c =
     let a = c .before .before in
-    ended (a .before .skip-idle .ensures .1 _ (a .before .before .loop .inv)) _ (a .call-at .ensures) (c .enum-told .given .1)
+    ended decodes (a .before .skip-idle .ensures .1 _ (a .before .before .loop .inv)) _ (a .call-at .ensures) (c .enum-told .given .1)
 
 enum-told-2 : tie.Need-enum-told-2 Inv-loop μ-loop
 enum-told-2 c = search needs
 
-add-t12 : tie.Need-add-t12 Inv-loop μ-loop
-add-t12 c =
+add-t17 : tie.Need-add-t17 Inv-loop μ-loop
+add-t17 c =
     let a = c .before .before in
-    omega (arith, bad-room (a .before .skip-idle .ensures .1 _ (a .before .before .loop .inv)) _ (a .call-at .ensures) (c .enum-told2 .given .1))
+    omega (arith, bad-room decodes (a .before .skip-idle .ensures .1 _ (a .before .before .loop .inv)) _ (a .call-at .ensures) (c .enum-told2 .given .1))
 
 returns-2 : tie.Need-returns-2 Inv-loop μ-loop
 returns-2 c =
     let a = c .before .before in
-    bad-ended (a .before .skip-idle .ensures .1 _ (a .before .before .loop .inv)) _ (a .call-at .ensures) (c .enum-told2 .given .1)
+    bad-ended decodes (a .before .skip-idle .ensures .1 _ (a .before .before .loop .inv)) _ (a .call-at .ensures) (c .enum-told2 .given .1)
 
 pub take-calls-spec : {M : Type 1} → statement M
 take-calls-spec =
@@ -113,5 +115,5 @@ take-calls-spec =
     enum-told
     returns
     enum-told-2
-    add-t12
+    add-t17
     returns-2)

@@ -15,7 +15,7 @@ use Rattle.members.proofs.lacking.spare.Statement.{statement}
 use Rattle.members.proofs.lacking.spare.Tie as tie
 
 abbrev Inv-loop : tie.InvT-loop
-Inv-loop count view rules broken able₀ i₀ able i =
+Inv-loop count view hand rules broken able₀ i₀ able i =
     (i ≤ count)
     × ((p : Plan) (f : Fates)
     → p .rules ≡ rules
@@ -24,7 +24,7 @@ Inv-loop count view rules broken able₀ i₀ able i =
     → Spared p (unbroken broken) f (inSet able₀) (inSet able))
 
 abbrev μ-loop : tie.MeasureT-loop
-μ-loop count view rules broken able₀ i₀ able i = i
+μ-loop count view hand rules broken able₀ i₀ able i = i
 
 loop-holds : tie.Need-loop-holds Inv-loop μ-loop
 loop-holds c = (omega arith, λ p f same counts shows. spared-all p _ f _)
@@ -62,7 +62,7 @@ loop-again c =
     let low = below .if1 .taken in (
       omega arith,
       λ p f same counts shows.
-          spared-next p (unbroken (a .t2)) f (inSet (a .view .able)) (inSet (at .able)) (at .inv .1 p f same counts shows) _ _
+          spared-next p (unbroken (a .t2)) f (inSet (a .hand)) (inSet (at .able)) (at .inv .1 p f same counts shows) _ _
           (record {
             place = at .i - 1;
             within = omega (arith, counts, at .inv .0, below .before .loop-test .taken);

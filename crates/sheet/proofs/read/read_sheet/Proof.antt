@@ -6,8 +6,8 @@ use mathlib.Core.Bool.{not}
 use native.Mathlib.Omega.{arith}
 use mathlib.Core.WellFounded.{WellFounded, InvImage·wf}
 use lib.WfN.{Nat·lt-wfRel}
-use lib.Dec.{T as Holds, eqb, eqb→eq}
-use borrow.Author.Tests.{eq-eqb}
+use lib.Dec.{T as Holds, eqb, leb, eqb→eq}
+use borrow.Author.Tests.{eq-eqb, leb-true, leb-false}
 use Prim.Native.Nat.{ℕ, _+_, _-_, _*_, _≤_, _<_, _^_}
 use mathlib.Core.List.{List, [], _∷_, map}
 use lib.ListN.{length}
@@ -45,7 +45,7 @@ use denote.Triple.Table.{entered, cited}
 use denote.Triple.Walked.{says, Stays, stay-none-slice, walkOf, goes-none-slice, Walks, ends-at, walked, walk-meets}
 use denote.Exit.{yes}
 use Rattle.plan.specs.Plans.{eventCount, ruleCount, emptyPlan}
-use Rattle.plan.specs.Records.{recordAt, addEvents, table1, declare}
+use Rattle.plan.specs.Records.{recordAt, declare}
 use Rattle.plan.proofs.Tests.{clash}
 use Rattle.scheduler.specs.Sheet.{readSheet}
 use Rattle.walks.specs.Called.{Its, calls-known, later, both-had, lone, is-true, is-false}
@@ -53,6 +53,7 @@ use Rattle.plan.proofs.event.Event.Laws as E′
 use Rattle.plan.proofs.event.Event as E
 use Rattle.plan.proofs.rule.RuleLine as L
 use Rattle.plan.proofs.rule.RuleLine.Laws as L′
+use Rattle.plan.proofs.window.Window.Laws as N′
 use Rattle.plan.proofs.record.Record as S
 use Rattle.plan.proofs.record.Record.Laws as S′
 use Rattle.plan.proofs.plan.Plan as P
@@ -60,9 +61,9 @@ use Rattle.plan.proofs.plan.Plan.Laws as P′
 use Rattle.scheduler.proofs.reply.Reading as R
 use Rattle.scheduler.proofs.reply.Reading.Laws as R′
 use Rattle.sheet.specs.Types.{Event, RuleLine, Plan, Record, Reader, Judged, Reading}
-use Rattle.sheet.specs.Internal.Progress.{eventOf, lineOf, judge as judgeOf, readingOf}
+use Rattle.sheet.specs.Internal.Progress.{eventOf, lineOf, addMore, judge as judgeOf, readingOf}
 use Rattle.sheet.specs.Internal.Place.{placeAfter}
-use Rattle.sheet.proofs.RecordLaws.{declare-event, declare-events, declare-rule}
+use Rattle.sheet.proofs.RecordLaws.{declare-event, declare-more, declare-rule}
 use Rattle.sheet.proofs.Reading.{Left, begins, stopped, less, has-room, again as goes-on}
 use Rattle.sheet.proofs.ArrayStore.{elem, map-set}
 use Rattle.sheet.proofs.PlanStored.{IsPlan, IsEvent, IsLine, withEvent, withRule, planVal, events-long, rules-long, event-stored, rule-stored, event-added, rule-added}
@@ -99,10 +100,10 @@ use Rattle.sheet.proofs.declare.event_of as event-of
 use Rattle.sheet.proofs.declare.event_of.Symbol as event-of-def
 use Rattle.sheet.proofs.declare.event_of.Symbol.{name as #event-of}
 use Rattle.sheet.proofs.declare.event_of.Met as event-of-thm
-use Rattle.sheet.proofs.declare.add_events as add-events
-use Rattle.sheet.proofs.declare.add_events.Symbol as add-events-def
-use Rattle.sheet.proofs.declare.add_events.Symbol.{name as #add-events}
-use Rattle.sheet.proofs.declare.add_events.Met as add-events-thm
+use Rattle.sheet.proofs.declare.add_more as add-more
+use Rattle.sheet.proofs.declare.add_more.Symbol as add-more-def
+use Rattle.sheet.proofs.declare.add_more.Symbol.{name as #add-more}
+use Rattle.sheet.proofs.declare.add_more.Met as add-more-thm
 use Rattle.sheet.proofs.declare.line_of as line-of
 use Rattle.sheet.proofs.declare.line_of.Symbol as line-of-def
 use Rattle.sheet.proofs.declare.line_of.Symbol.{name as #line-of}
@@ -180,7 +181,7 @@ pub record Known {M : Type 1} (𝓤 : URA M) (H : Heap 𝓤) (A : Atoms 𝓤) (m
   pub of-reading : Triple 𝓤 (C #reading-of) (Its 𝓤 H A reading-of.ended (reading-of.clauses 𝓤 H A mem run))
   pub of-moved : Triple 𝓤 (C #moved-past) (Its 𝓤 H A moved-past.ended (moved-past.clauses 𝓤 H A mem run))
   pub of-event : Triple 𝓤 (C #event-of) (Its 𝓤 H A event-of.ended (event-of.clauses 𝓤 H A mem run))
-  pub of-events : Triple 𝓤 (C #add-events) (Its 𝓤 H A add-events.ended (add-events.clauses 𝓤 H A mem run))
+  pub of-events : Triple 𝓤 (C #add-more) (Its 𝓤 H A add-more.ended (add-more.clauses 𝓤 H A mem run))
   pub of-line : Triple 𝓤 (C #line-of) (Its 𝓤 H A line-of.ended (line-of.clauses 𝓤 H A mem run))
 
 module _ {M : Type 1} (𝓤 : URA M) (H : Heap 𝓤) (A : Atoms 𝓤) (W : Given 𝓤 H A) (mem : Memory → SProp 𝓤) (run : Routine → Fun 𝓤) (κ : Lft) (q : Share) (s : RefT (List ℕ)) where
@@ -252,8 +253,8 @@ module _ {M : Type 1} (𝓤 : URA M) (H : Heap 𝓤) (A : Atoms 𝓤) (W : Given
   abbrev to-event : Record → Its 𝓤 H A event-of.ended (event-of.clauses 𝓤 H A mem run) .Ghost
   to-event r = ((tt, tt, tt, (r, tt), (S′.lowered r ∷ [], tt)), tt)
 
-  abbrev to-events : Plan → ℕ → Its 𝓤 H A add-events.ended (add-events.clauses 𝓤 H A mem run) .Ghost
-  to-events p k = ((tt, tt, tt, (p, (k, tt)), (P′.lowered p ∷ [], (vint w8 k ∷ [], tt))), tt)
+  abbrev to-events : Plan → Record → Its 𝓤 H A add-more.ended (add-more.clauses 𝓤 H A mem run) .Ghost
+  to-events p r = ((tt, tt, tt, (p, (r, tt)), (P′.lowered p ∷ [], (S′.lowered r ∷ [], tt))), tt)
 
   abbrev to-line : Record → Its 𝓤 H A line-of.ended (line-of.clauses 𝓤 H A mem run) .Ghost
   to-line r = ((tt, tt, tt, (r, tt), (S′.lowered r ∷ [], tt)), tt)
@@ -378,7 +379,7 @@ module _ {M : Type 1} (𝓤 : URA M) (H : Heap 𝓤) (A : Atoms 𝓤) (W : Given
       k = lineOf rec
 
       abbrev q₄ : Plan
-      q₄ = addEvents p (rec .x) table1
+      q₄ = addMore p rec
 
       module _ (goes : Holds (not (j .stops))) where
         nearer : len - n′ < len - n
@@ -406,18 +407,21 @@ module _ {M : Type 1} (𝓤 : URA M) (H : Heap 𝓤) (A : Atoms 𝓤) (W : Given
               (event-added p (rec .x) (rec .y) below-event ∙ declare-event rec p (eqb→eq (rec .kind) 1 h))
 
         module _ (other : Holds (not (eqb (rec .kind) 1))) where
-          -- one of kind 6: four places are left
-          module _ (h : Holds (eqb (rec .kind) 6)) where
-            four-left : eventCount p + 4 ≤ 16
-            four-left = has-room (now s) n p (is-false (j .stops) goes) .four (eqb→eq (rec .kind) 6 h)
+          -- one of kind 6 or 7: for kind 6 four places are left
+          module _ (h : Holds (leb 6 (rec .kind))) where
+            four-left : rec .kind ≡ 6 → eventCount p + 4 ≤ 16
+            four-left = has-room (now s) n p (is-false (j .stops) goes) .four
 
             abbrev events-turn : IsPlan q₄ → Turn
-            events-turn is = turn-to q₄ is (declare-events rec p (other-than (rec .kind) 1 other) (eqb→eq (rec .kind) 6 h))
+            events-turn is = turn-to q₄ is (declare-more rec p (other-than (rec .kind) 1 other) (leb-true 6 (rec .kind) (is-true (leb 6 (rec .kind)) h)) (has-room (now s) n p (is-false (j .stops) goes) .high))
 
           -- one of another kind: a rule
-          module _ (h : Holds (not (eqb (rec .kind) 6))) where
+          module _ (h : Holds (not (leb 6 (rec .kind)))) where
+            low-kind : rec .kind < 6
+            low-kind = leb-false 6 (rec .kind) (is-false (leb 6 (rec .kind)) h)
+
             below-line : ruleCount p < 16
-            below-line = has-room (now s) n p (is-false (j .stops) goes) .rule (other-than (rec .kind) 1 other) (other-than (rec .kind) 6 h)
+            below-line = has-room (now s) n p (is-false (j .stops) goes) .rule (other-than (rec .kind) 1 other) low-kind
 
             wide-line : ruleCount p < 2 ^ 64
             wide-line = omega (arith, below-line)
@@ -430,7 +434,7 @@ module _ {M : Type 1} (𝓤 : URA M) (H : Heap 𝓤) (A : Atoms 𝓤) (W : Given
 
             abbrev line-turn : IsLine k → Turn
             line-turn is = turn-to (withRule p k) (rule-stored p (x .is) k is next-line)
-                (rule-added p (k .rule) below-line ∙ declare-rule rec p (other-than (rec .kind) 1 other) (other-than (rec .kind) 6 h))
+                (rule-added p (k .rule) below-line ∙ declare-rule rec p (other-than (rec .kind) 1 other) low-kind)
 
       -- what is left of the turn after the test whether it stops, and after the reader is moved: the test for kind 1, and for 6
       abbrev after-judged : Body
@@ -482,7 +486,7 @@ module _ {M : Type 1} (𝓤 : URA M) (H : Heap 𝓤) (A : Atoms 𝓤) (W : Given
           → Sq W (AtMoved (froom tyBool l₂₂ 0)) (runs C Λ En (arm-if by-kind) (anyQ (Turned x)))
       unfolding afterTurn
       event-arm goes isS h =
-          assigns ! (of-opd ! (load ! (from ! (fld ! refl (stop !))) (look-in ! 57 (sub ! 1 refl (whole !))))) (from ! (stop !)) (init ! 51 refl (tt, typedP p (x .is) .1 .1 .0)) $ nothing ! $
+          assigns ! (of-opd ! (load ! (from ! (fld ! refl (stop !))) (look-in ! 57 (sub ! 0 refl (whole !))))) (from ! (stop !)) (init ! 51 refl (tt, typedP p (x .is) .1 .0)) $ nothing ! $
           calls-known ! fm event-of.ended (event-of.clauses 𝓤 H A mem run) (known .of-event) (to-event rec) e (E′.lowered e) (‵ ftrue)
           (lone 𝓤 (owns-make 𝓤 H A (S.the-row ∷ []) _ (LL.makes S.the-type S′.the-plain 𝓤 H A, tt) (rec, tt) (S′.lowered rec ∷ [], tt) (isS, tt)))
           (λ r ws. id⊢ 𝓤 _) (E′.lowers .val-is e) (and-then ! (load ! (from ! (stop !)) (look ! 56 refl)) (no-more !)) (λ isX.
@@ -492,26 +496,26 @@ module _ {M : Type 1} (𝓤 : URA M) (H : Heap 𝓤) (A : Atoms 𝓤) (W : Given
           assigns ! (addr ! (from ! (fld ! refl (stop !)))) (from ! (stop !)) (init ! 25 refl (tt, tt)) $
           assigns ! (bin ! (load ! (from ! (stop !)) (look ! 25 refl)) (load ! (from ! (stop !)) (look ! 27 refl)) tt) (from ! (stop !)) (init ! 23 refl (tt, tt)) $
           assigns ! (of-opd ! (load ! (from ! (stop !)) (look ! 31 refl))) (from ! (hop ! (look ! 23 refl) (stop !)))
-          (store-in ! 57 (elem ! 16 (map E′.lowered (p .events)) _ vunit _ (events-long p (x .is)) (below-event goes h) (place-is 2 _ _) (sub ! 0 refl (whole !))) (typedE e isX)) $
+          (store-in ! 57 (elem ! 16 (map E′.lowered (p .events)) _ vunit _ (events-long p (x .is)) (below-event goes h) (place-is 2 _ _) (sub ! 2 refl (whole !))) (typedE e isX)) $
           assigns ! (bin ! (load ! (from ! (stop !)) (look ! 51 refl)) (lit ! tt) (record { fits = next-event goes h })) (from ! (stop !)) (init ! 21 refl (tt, record { fits = next-event goes h })) $
-          assigns-last ! (of-opd ! (load ! (from ! (stop !)) (look ! 21 refl))) (from ! (fld ! refl (stop !))) (store-in ! 57 (sub ! 1 refl (whole !)) (tt, record { fits = next-event goes h })) $
-          rewrite ! 57 (λ (us : List Val). ‵ (fat fullShare P′.mir l₃ 0 (planVal us (eventCount p + 1) (map L′.lowered (p .rules)) (ruleCount p)))) (map-set E′.lowered (p .events) (eventCount p) e) refl $
+          assigns-last ! (of-opd ! (load ! (from ! (stop !)) (look ! 21 refl))) (from ! (fld ! refl (stop !))) (store-in ! 57 (sub ! 0 refl (whole !)) (tt, record { fits = next-event goes h })) $
+          rewrite ! 57 (λ (us : List Val). ‵ (fat fullShare P′.mir l₃ 0 (planVal us (eventCount p + 1) (map L′.lowered (p .rules)) (ruleCount p) (map N′.lowered (p .windows))))) (map-set E′.lowered (p .events) (eventCount p) e) refl $
           forget ! 21 refl $ forget ! 23 refl $ forget ! 25 refl $ forget ! 27 refl $ forget ! 29 refl $ forget ! 31 refl $ forget ! 33 refl $
           forget ! 37 refl $ forget ! 39 refl $ forget ! 41 refl $ forget ! 43 refl $ forget ! 45 refl $ forget ! 51 refl $ forget ! 53 refl $
           forget ! 55 refl $
           again ! Fewer At x (event-turn goes h isX) (nearer goes))
 
       -- kind 6: four events are added
-      events-arm : (goes : Holds (not (j .stops))) → IsS rec → (other : Holds (not (eqb (rec .kind) 1))) → (h : Holds (eqb (rec .kind) 6))
-          → Sq W (AtMoved (fat fullShare tyBool l₂₂ 0 (vbool (eqb (rec .kind) 6)))) (runs C Λ En (arm-if (later (arm-else by-kind))) (anyQ (Turned x)))
+      events-arm : (goes : Holds (not (j .stops))) → IsS rec → (other : Holds (not (eqb (rec .kind) 1))) → (h : Holds (leb 6 (rec .kind)))
+          → Sq W (AtMoved (fat fullShare tyBool l₂₂ 0 (vbool (leb 6 (rec .kind))))) (runs C Λ En (arm-if (later (arm-else by-kind))) (anyQ (Turned x)))
       unfolding afterTurn
       events-arm goes isS other h =
           assigns ! (of-opd ! (load ! (from ! (stop !)) (look ! 57 refl))) (from ! (stop !)) (init ! 15 refl (typedP p (x .is))) $ nothing ! $
-          calls-known ! fm add-events.ended (add-events.clauses 𝓤 H A mem run) (known .of-events) (to-events p (rec .x)) q₄ (P′.lowered q₄) (‵ ftrue)
-          (asking 𝓤 (eventCount p + 4 ≤ 16) (owns-make 𝓤 H A (P.the-row ∷ u8 ∷ []) _ (LL.makes P.the-type P′.the-plain 𝓤 H A, (uint-makes 𝓤 H A W w8, tt))
-          (p, (rec .x, tt)) (P′.lowered p ∷ [], (vint w8 (rec .x) ∷ [], tt)) (x .is, ((refl, typedS rec isS .1 .1 .0 .fits), tt))) (four-left goes other h))
+          calls-known ! fm add-more.ended (add-more.clauses 𝓤 H A mem run) (known .of-events) (to-events p rec) q₄ (P′.lowered q₄) (‵ ftrue)
+          (asking 𝓤 (rec .kind ≡ 6 → eventCount p + 4 ≤ 16) (owns-make 𝓤 H A (P.the-row ∷ S.the-row ∷ []) _ (LL.makes P.the-type P′.the-plain 𝓤 H A, (LL.makes S.the-type S′.the-plain 𝓤 H A, tt))
+          (p, (rec, tt)) (P′.lowered p ∷ [], (S′.lowered rec ∷ [], tt)) (x .is, (isS, tt))) (four-left goes other h))
           (λ r ws. id⊢ 𝓤 _) (P′.lowers .val-is q₄)
-          (and-then ! (load ! (from ! (stop !)) (look ! 16 refl)) (and-then ! (load ! (from ! (fld ! refl (stop !))) (look-in ! 56 (sub ! 1 refl (whole !)))) (no-more !))) (λ isF.
+          (and-then ! (load ! (from ! (stop !)) (look ! 16 refl)) (and-then ! (load ! (from ! (stop !)) (look ! 56 refl)) (no-more !))) (λ isF.
           land ! (from ! (stop !)) (init ! 19 refl (typedP q₄ isF)) $ drop ! $ drop ! $
           assigns-last ! (of-opd ! (load ! (from ! (stop !)) (look ! 17 refl))) (from ! (stop !)) (store ! 57 refl (typedP q₄ isF)) $
           forget ! 15 refl $ forget ! 17 refl $ forget ! 19 refl $ forget ! 33 refl $ forget ! 37 refl $ forget ! 39 refl $ forget ! 41 refl $
@@ -519,11 +523,11 @@ module _ {M : Type 1} (𝓤 : URA M) (H : Heap 𝓤) (A : Atoms 𝓤) (W : Given
           again ! Fewer At x (events-turn goes other h isF) (nearer goes))
 
       -- another kind: the rule goes into the plan's next place
-      line-arm : (goes : Holds (not (j .stops))) → IsS rec → (other : Holds (not (eqb (rec .kind) 1))) → (h : Holds (not (eqb (rec .kind) 6)))
-          → Sq W (AtMoved (fat fullShare tyBool l₂₂ 0 (vbool (eqb (rec .kind) 6)))) (runs C Λ En (arm-else (later (arm-else by-kind))) (anyQ (Turned x)))
+      line-arm : (goes : Holds (not (j .stops))) → IsS rec → (other : Holds (not (eqb (rec .kind) 1))) → (h : Holds (not (leb 6 (rec .kind))))
+          → Sq W (AtMoved (fat fullShare tyBool l₂₂ 0 (vbool (leb 6 (rec .kind))))) (runs C Λ En (arm-else (later (arm-else by-kind))) (anyQ (Turned x)))
       unfolding afterTurn
       line-arm goes isS other h =
-          assigns ! (of-opd ! (load ! (from ! (fld ! refl (stop !))) (look-in ! 57 (sub ! 3 refl (whole !))))) (from ! (stop !)) (init ! 49 refl (tt, typedP p (x .is) .1 .1 .1 .1 .0)) $ nothing ! $
+          assigns ! (of-opd ! (load ! (from ! (fld ! refl (stop !))) (look-in ! 57 (sub ! 4 refl (whole !))))) (from ! (stop !)) (init ! 49 refl (tt, typedP p (x .is) .1 .1 .1 .1 .1 .0)) $ nothing ! $
           calls-known ! fm line-of.ended (line-of.clauses 𝓤 H A mem run) (known .of-line) (to-line rec) k (L′.lowered k) (‵ ftrue)
           (lone 𝓤 (owns-make 𝓤 H A (S.the-row ∷ []) _ (LL.makes S.the-type S′.the-plain 𝓤 H A, tt) (rec, tt) (S′.lowered rec ∷ [], tt) (isS, tt)))
           (λ r ws. id⊢ 𝓤 _) (L′.lowers .val-is k) (and-then ! (load ! (from ! (stop !)) (look ! 56 refl)) (no-more !)) (λ isX.
@@ -533,10 +537,10 @@ module _ {M : Type 1} (𝓤 : URA M) (H : Heap 𝓤) (A : Atoms 𝓤) (W : Given
           assigns ! (addr ! (from ! (fld ! refl (stop !)))) (from ! (stop !)) (init ! 7 refl (tt, tt)) $
           assigns ! (bin ! (load ! (from ! (stop !)) (look ! 7 refl)) (load ! (from ! (stop !)) (look ! 9 refl)) tt) (from ! (stop !)) (init ! 5 refl (tt, tt)) $
           assigns ! (of-opd ! (load ! (from ! (stop !)) (look ! 13 refl))) (from ! (hop ! (look ! 5 refl) (stop !)))
-          (store-in ! 57 (elem ! 16 (map L′.lowered (p .rules)) _ vunit _ (rules-long p (x .is)) (below-line goes other h) (place-is 4 _ _) (sub ! 2 refl (whole !))) (typedL k isX)) $
+          (store-in ! 57 (elem ! 16 (map L′.lowered (p .rules)) _ vunit _ (rules-long p (x .is)) (below-line goes other h) (place-is 4 _ _) (sub ! 3 refl (whole !))) (typedL k isX)) $
           assigns ! (bin ! (load ! (from ! (stop !)) (look ! 49 refl)) (lit ! tt) (record { fits = next-line goes other h })) (from ! (stop !)) (init ! 3 refl (tt, record { fits = next-line goes other h })) $
-          assigns-last ! (of-opd ! (load ! (from ! (stop !)) (look ! 3 refl))) (from ! (fld ! refl (stop !))) (store-in ! 57 (sub ! 3 refl (whole !)) (tt, record { fits = next-line goes other h })) $
-          rewrite ! 57 (λ (us : List Val). ‵ (fat fullShare P′.mir l₃ 0 (planVal (map E′.lowered (p .events)) (eventCount p) us (ruleCount p + 1)))) (map-set L′.lowered (p .rules) (ruleCount p) k) refl $
+          assigns-last ! (of-opd ! (load ! (from ! (stop !)) (look ! 3 refl))) (from ! (fld ! refl (stop !))) (store-in ! 57 (sub ! 4 refl (whole !)) (tt, record { fits = next-line goes other h })) $
+          rewrite ! 57 (λ (us : List Val). ‵ (fat fullShare P′.mir l₃ 0 (planVal (map E′.lowered (p .events)) (eventCount p) us (ruleCount p + 1) (map N′.lowered (p .windows))))) (map-set L′.lowered (p .rules) (ruleCount p) k) refl $
           forget ! 3 refl $ forget ! 5 refl $ forget ! 7 refl $ forget ! 9 refl $ forget ! 11 refl $ forget ! 13 refl $ forget ! 19 refl $ forget ! 33 refl $
           forget ! 37 refl $ forget ! 39 refl $ forget ! 41 refl $ forget ! 43 refl $ forget ! 45 refl $ forget ! 49 refl $ forget ! 53 refl $
           forget ! 55 refl $
@@ -556,9 +560,9 @@ module _ {M : Type 1} (𝓤 : URA M) (H : Heap 𝓤) (A : Atoms 𝓤) (W : Given
           branches ! (load ! (from ! (stop !)) (look ! 37 refl))
           -- kind 1: the event goes into the plan's next place
           (event-arm goes isS)
-          (λ other. assigns ! (bin ! (load ! (from ! (fld ! refl (stop !))) (look-in ! 55 (sub ! 0 refl (whole !)))) (lit ! tt) tt) (from ! (stop !)) (init ! 19 refl (tt, tt)) $
+          (λ other. assigns ! (bin ! (lit ! tt) (load ! (from ! (fld ! refl (stop !))) (look-in ! 55 (sub ! 0 refl (whole !)))) tt) (from ! (stop !)) (init ! 19 refl (tt, tt)) $
           branches ! (load ! (from ! (stop !)) (look ! 19 refl))
-          -- kind 6: four events are added
+          -- kind 6 or 7: four events, or a window
           (events-arm goes isS other)
           -- another kind: the rule goes into the plan's next place
           (line-arm goes isS other)))
@@ -682,8 +686,8 @@ read-sheet-spec 𝓤 H 𝓜 𝓖 𝓡 =
           #moved-past moved-past-def.routine code.calls-sheet·reader·moved-past (moved-past-thm.met 𝓤 H 𝓜 𝓖 𝓡);
       of-event = cited 𝓤 H (Its 𝓤 H (𝓖 .A) event-of.ended (event-of.clauses 𝓤 H (𝓖 .A) (𝓜 .mem) (𝓡 .run))) 𝓜 𝓡 code.env
           #event-of event-of-def.routine code.calls-sheet·declare·event-of (event-of-thm.met 𝓤 H 𝓜 𝓖 𝓡);
-      of-events = cited 𝓤 H (Its 𝓤 H (𝓖 .A) add-events.ended (add-events.clauses 𝓤 H (𝓖 .A) (𝓜 .mem) (𝓡 .run))) 𝓜 𝓡 code.env
-          #add-events add-events-def.routine code.calls-sheet·declare·add-events (add-events-thm.met 𝓤 H 𝓜 𝓖 𝓡);
+      of-events = cited 𝓤 H (Its 𝓤 H (𝓖 .A) add-more.ended (add-more.clauses 𝓤 H (𝓖 .A) (𝓜 .mem) (𝓡 .run))) 𝓜 𝓡 code.env
+          #add-more add-more-def.routine code.calls-sheet·declare·add-more (add-more-thm.met 𝓤 H 𝓜 𝓖 𝓡);
       of-line = cited 𝓤 H (Its 𝓤 H (𝓖 .A) line-of.ended (line-of.clauses 𝓤 H (𝓖 .A) (𝓜 .mem) (𝓡 .run))) 𝓜 𝓡 code.env
           #line-of line-of-def.routine code.calls-sheet·declare·line-of (line-of-thm.met 𝓤 H 𝓜 𝓖 𝓡);
     }))

@@ -2,6 +2,7 @@
 use mathlib.Core.Path.{sym, _∙_, ap}
 use Rattle.scheduler.specs.Prelude.{Call}
 use Rattle.scheduler.specs.Answers.{accept}
+use Rattle.scheduler.proofs.Courses.{course-submit, course-close, course-finish, course-advance}
 use borrow.Author.Needs.{needs}
 use Rattle.scheduler.proofs.state.State.after_call.Statement.{statement}
 use Rattle.scheduler.proofs.state.State.after_call.Tie as tie
@@ -28,19 +29,31 @@ returns : tie.Need-returns
 unfolding accept
 returns c =
     let s = c .before .before .before .before .args .self in
-    c .after-submit .ensures ∙ ap (λ (m : Call). accept s m .state) (sym (c .before .before .made .given .1))
+    course-submit s _ _ (c .after-submit .ensures) ∙ ap (λ (m : Call). accept s m .state) (sym (c .before .before .made .given .1))
 
 returns-2 : tie.Need-returns-2
 unfolding accept
 returns-2 c =
     let s = c .before .before .before .before .args .self in
-    c .after-close .ensures ∙ ap (λ (m : Call). accept s m .state) (sym (c .before .before .made2 .given .1))
+    course-close s _ _ (c .after-close .ensures) ∙ ap (λ (m : Call). accept s m .state) (sym (c .before .before .made2 .given .1))
 
 returns-3 : tie.Need-returns-3
 unfolding accept
 returns-3 c =
     let s = c .before .before .before .args .self in
-    c .after-finish .ensures ∙ ap (λ (m : Call). accept s m .state) (sym (c .before .enum-told .given .1))
+    course-finish s _ (c .after-finish .ensures) ∙ ap (λ (m : Call). accept s m .state) (sym (c .before .enum-told .given .1))
+
+enum-known-made-3 : tie.Need-enum-known-made-3
+enum-known-made-3 c = search needs
+
+after-advance-requires : tie.Need-after-advance-requires
+after-advance-requires c κs = search needs
+
+returns-4 : tie.Need-returns-4
+unfolding accept
+returns-4 c =
+    let s = c .before .before .before .before .args .self in
+    course-advance s _ _ (c .after-advance .ensures) ∙ ap (λ (m : Call). accept s m .state) (sym (c .before .before .made3 .given .1))
 
 pub after-call-spec : {M : Type 1} → statement M
 after-call-spec =
@@ -52,6 +65,9 @@ after-call-spec =
     after-close-requires
     enum-told
     after-finish-requires
+    enum-known-made-3
+    after-advance-requires
     returns
     returns-2
-    returns-3)
+    returns-3
+    returns-4)

@@ -3,16 +3,13 @@ use borrow.Author.Needs.{needs}
 use borrow.Author.Tests.{not-true, not-false}
 use mathlib.Core.Bool.{true}
 use mathlib.Core.Logic.{inl, inr}
-use mathlib.Core.Path.{_≡_, refl, sym, _∙_}
+use mathlib.Core.Path.{_≡_, refl, sym, _∙_, ap}
 use Rattle.plan.specs.Fates.{isOpen}
 use Rattle.plan.specs.Plans.{delayable}
 use Rattle.plan.proofs.RuleReads.{bit-in, bit-past}
-use Rattle.scheduler.specs.Prelude.{State}
-use Rattle.scheduler.specs.State.{fateOf}
-use Rattle.scheduler.specs.Calls.{settle, submit}
-use Rattle.scheduler.proofs.Branches.{submit-same}
-use Rattle.scheduler.proofs.CallSteps.{fate-in, fate-blank, hand-delayed, hand-decided}
-use Rattle.scheduler.proofs.SettleLoops.{settle-unheld}
+use Rattle.scheduler.specs.State.{fateOf, courseOf}
+use Rattle.scheduler.proofs.Branches.{submit-same, submit-delayed, submit-decided}
+use Rattle.scheduler.proofs.CallSteps.{fate-in, fate-blank}
 use Rattle.scheduler.proofs.state.State.after_submit.Statement.{statement}
 use Rattle.scheduler.proofs.state.State.after_submit.Tie as tie
 
@@ -22,10 +19,16 @@ array-copy-out-standing c = search needs
 is-open-requires : tie.Need-is-open-requires
 is-open-requires c κs = search needs
 
+course-requires : tie.Need-course-requires
+course-requires c κs = search needs
+
 returns : tie.Need-returns
 returns c =
-    let a = c .before .before .before .before .before .before .before .args in
-    sym (submit-same (a .self) (a .event) (sym (fate-in (a .self) (a .event) _ (c .before .before .before .if1 .taken) (c .before .is-open .ensures)) ∙ not-true _ (c .if2 .taken)))
+    let test = c .before in
+    let a = test .before .before .before .before .before .before .before .args in
+    let told = test .before .is-open .ensures in
+    c .course .ensures
+    ∙ ap courseOf (sym (submit-same (a .self) (a .event) (sym (fate-in (a .self) (a .event) _ (test .before .before .before .if1 .taken) told) ∙ not-true _ (test .if2 .taken))))
 
 mul-declared : tie.Need-mul-declared
 mul-declared c = search needs
@@ -33,15 +36,12 @@ mul-declared c = search needs
 array-copy-out-declared : tie.Need-array-copy-out-declared
 array-copy-out-declared c = search needs
 
-hold-requires : tie.Need-hold-requires
-hold-requires c κs = search needs
-
 is-delayable-requires : tie.Need-is-delayable-requires
 is-delayable-requires c κs = search needs
 
 -- places of the code: where the event is known to be open, and where the function begins
 abbrev join : tie.After-is-delayable → tie.Joined1
-join c = c .before .before
+join c = c .before
 
 abbrev begun : tie.After-is-delayable → tie.Start
 begun c = join c .before .before .before .before
@@ -58,38 +58,25 @@ late c = elim (join c .if1 .came) [
   | inr w ↦ bit-past (begun c .args .self .plan) _ refl 4 (begun c .args .event) _ _ (c .is-delayable .ensures) (w .0 .left) (w .1)
 ]
 
-settle-requires : tie.Need-settle-requires
-settle-requires c κs = search needs
+settle-with-requires : tie.Need-settle-with-requires
+settle-with-requires c κs = search needs
 
 returns-2 : tie.Need-returns-2
 returns-2 c =
     let told = c .before .before in
-    hand-delayed (begun told .args .self) (begun told .args .event) (fresh told) _ _ _ (told .before .hold .ensures) (late told) (c .before .if3 .taken) (c .settle .ensures)
+    let a = begun told .args in
+    c .settle-with .ensures
+    ∙ ap courseOf (sym (submit-delayed (a .self) (a .event) (fresh told) (sym (late told) ∙ c .before .if3 .taken)))
 
-decide-requires : tie.Need-decide-requires
-decide-requires c κs = search needs
-
-has-held-requires : tie.Need-has-held-requires
-has-held-requires c κs = search needs
-
-settle-requires-2 : tie.Need-settle-requires-2
-settle-requires-2 c κs = search needs
-
--- the event is decided, and the rest settled
-handed : (c : tie.After-decide) (u : State)
-    → u ≡ settle (c .decide .result)
-    → (let a = begun (c .before .before) .args in u ≡ submit (a .self) (a .event))
-handed c u settled =
-    let told = c .before .before in
-    hand-decided (begun told .args .self) (begun told .args .event) (fresh told) _ _ _ (told .before .hold .ensures) (late told) _ (c .before .if3 .left) (c .decide .ensures) settled
+settle-decided-requires : tie.Need-settle-decided-requires
+settle-decided-requires c κs = search needs
 
 returns-3 : tie.Need-returns-3
-returns-3 c = handed (c .before .before .before) _ (c .settle2 .ensures)
-
-returns-4 : tie.Need-returns-4
-returns-4 c =
-    let decided = c .before .before in
-    handed decided _ (sym (settle-unheld (decided .decide .result) (sym (c .before .has-held .ensures) ∙ c .if4 .left)))
+returns-3 c =
+    let told = c .before .before in
+    let a = begun told .args in
+    c .settle-decided .ensures
+    ∙ ap courseOf (sym (submit-decided (a .self) (a .event) (fresh told) (sym (late told) ∙ c .before .if3 .left)))
 
 pub after-submit-spec : {M : Type 1} → statement M
 after-submit-spec =
@@ -97,15 +84,12 @@ after-submit-spec =
     (tie.spec
     array-copy-out-standing
     is-open-requires
+    course-requires
     returns
     mul-declared
     array-copy-out-declared
-    hold-requires
     is-delayable-requires
-    settle-requires
+    settle-with-requires
     returns-2
-    decide-requires
-    has-held-requires
-    settle-requires-2
-    returns-3
-    returns-4)
+    settle-decided-requires
+    returns-3)

@@ -32,6 +32,15 @@ returns-2 c = c .close-step .ensures ∙ ap (call _) (sym (c .before .before .ma
 returns-3 : tie.Need-returns-3
 returns-3 c = c .finish .ensures ∙ ap (call _) (sym (c .before .enum-told .given .1))
 
+enum-known-made-3 : tie.Need-enum-known-made-3
+enum-known-made-3 c = search needs
+
+advance-requires : tie.Need-advance-requires
+advance-requires c κs = search needs
+
+returns-4 : tie.Need-returns-4
+returns-4 c = c .advance .ensures ∙ ap (call _) (sym (c .before .before .made3 .given .1))
+
 pub call-spec : {M : Type 1} → statement M
 call-spec =
     tie.close
@@ -42,6 +51,9 @@ call-spec =
     close-step-requires
     enum-told
     finish-requires
+    enum-known-made-3
+    advance-requires
     returns
     returns-2
-    returns-3)
+    returns-3
+    returns-4)

@@ -1,8 +1,10 @@
 -- `State::decide` meets its contract.
 use borrow.Author.Needs.{needs}
 use mathlib.Core.Logic.{inl, inr}
-use mathlib.Core.Path.{refl}
+use mathlib.Core.Path.{refl, _∙_, ap}
 use Rattle.plan.proofs.RuleReads.{bit-in, bit-past}
+use Rattle.scheduler.specs.Internal.Written.{withWritten}
+use Rattle.scheduler.proofs.Courses.{write-all}
 use Rattle.scheduler.proofs.CallSteps.{decide-found, decide-refused, decide-done}
 use Rattle.scheduler.proofs.state.State.decide.Statement.{statement}
 use Rattle.scheduler.proofs.state.State.decide.Tie as tie
@@ -15,8 +17,10 @@ do-events-requires c κs = search needs
 
 returns : tie.Need-returns
 returns c =
-    let found = c .before .before .before in
-    decide-found _ _ _ (found .before .find-order .ensures) _ (found .if1 .taken) (c .do-events .ensures)
+    let made = c .before .before in
+    let found = made .before .before .before .before .before in
+    let s = found .before .before .before .before .args .self in
+    decide-found s _ _ (found .before .find-order .ensures) _ (found .if1 .taken) (ap (withWritten s) (made .do-events .ensures) ∙ write-all s _ _)
 
 mul-declared : tie.Need-mul-declared
 mul-declared c = search needs

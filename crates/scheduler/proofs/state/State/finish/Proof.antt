@@ -2,6 +2,7 @@
 use mathlib.Core.Path.{sym, _∙_}
 use Rattle.scheduler.specs.Prelude.{Finish, NotClosed}
 use Rattle.scheduler.proofs.CallSteps.{says-no, says-yes, call-incoherent, take-refused, take-accepted, take-call, finish-unclosed, finish-closed, finish-reply}
+use Rattle.scheduler.proofs.Courses.{course-finish}
 use borrow.Author.Needs.{needs}
 use Rattle.scheduler.proofs.state.State.finish.Statement.{statement}
 use Rattle.scheduler.proofs.state.State.finish.Tie as tie
@@ -34,13 +35,16 @@ returns-2 c =
 after-finish-requires : tie.Need-after-finish-requires
 after-finish-requires c κs = search needs
 
+with-course-requires : tie.Need-with-course-requires
+with-course-requires c κs = search needs
+
 returns-3 : tie.Need-returns-3
 returns-3 c =
-    let a = c .before .before .before .before .before .args in
+    let a = c .before .before .before .before .before .before .args in
     take-accepted (a .self) Finish _
-    (finish-closed (a .self) (sym (c .before .before .has-unclosed .ensures) ∙ c .before .if2 .left))
-    (finish-reply (a .self) _ (c .after-finish .ensures))
-    ∙ take-call (a .self) Finish (says-yes _ _ (c .before .before .before .before .is-coherent .ensures) (c .before .before .before .if1 .left))
+    (finish-closed (a .self) (sym (c .before .before .before .has-unclosed .ensures) ∙ c .before .before .if2 .left))
+    (finish-reply (a .self) _ (c .with-course .ensures ∙ course-finish (a .self) _ (c .before .after-finish .ensures)))
+    ∙ take-call (a .self) Finish (says-yes _ _ (c .before .before .before .before .before .is-coherent .ensures) (c .before .before .before .before .if1 .left))
 
 pub finish-spec : {M : Type 1} → statement M
 finish-spec =
@@ -53,4 +57,5 @@ finish-spec =
     turn-down-requires-2
     returns-2
     after-finish-requires
+    with-course-requires
     returns-3)

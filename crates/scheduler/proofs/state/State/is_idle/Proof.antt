@@ -1,6 +1,6 @@
 -- `State::is_idle` meets its contract.
 use mathlib.Core.Bool.{true}
-use Rattle.scheduler.proofs.CallSteps.{fate-in, fate-blank, submit-idle, close-idle, finish-idle}
+use Rattle.scheduler.proofs.CallSteps.{fate-in, fate-blank, submit-idle, close-idle, finish-idle, move-idle}
 use borrow.Author.Needs.{needs}
 use Rattle.scheduler.proofs.state.State.is_idle.Statement.{statement}
 use Rattle.scheduler.proofs.state.State.is_idle.Tie as tie
@@ -44,6 +44,12 @@ returns-3 c = close-idle _ _ _ (c .before .made2 .given .1)
 returns-4 : tie.Need-returns-4
 returns-4 c = finish-idle _ _ _ (c .before .enum-told .given .1) (c .has-held .ensures)
 
+enum-known-made-3 : tie.Need-enum-known-made-3
+enum-known-made-3 c = search needs
+
+returns-5 : tie.Need-returns-5
+returns-5 c = move-idle _ _ _ (c .before .made3 .given .1)
+
 pub is-idle-spec : {M : Type 1} → statement M
 is-idle-spec =
     tie.close
@@ -56,6 +62,8 @@ is-idle-spec =
     enum-known-made-2
     enum-told
     has-held-requires
+    enum-known-made-3
     returns-2
     returns-3
-    returns-4)
+    returns-4
+    returns-5)

@@ -2,10 +2,11 @@
 use borrow.Author.Needs.{needs}
 use mathlib.Core.Bool.{false}
 use mathlib.Core.Logic.{inl, inr}
-use mathlib.Core.Path.{_≡_, refl, sym, _∙_}
+use mathlib.Core.Path.{_≡_, refl, _∙_}
 use Rattle.scheduler.specs.Prelude.{Close, Unknown, AlreadyClosed}
 use Rattle.plan.proofs.Arrays.{read-in, read-past}
 use Rattle.scheduler.specs.State.{closedAt}
+use Rattle.scheduler.proofs.Courses.{course-close}
 use Rattle.scheduler.proofs.CallSteps.{says-no, says-yes, take-refused, take-accepted, close-unknown, close-again, close-known, close-reply}
 use Rattle.scheduler.proofs.state.State.take_close.Statement.{statement}
 use Rattle.scheduler.proofs.state.State.take_close.Tie as tie
@@ -39,18 +40,22 @@ returns-2 c =
 after-close-requires : tie.Need-after-close-requires
 after-close-requires c κs = search needs
 
+with-course-requires : tie.Need-with-course-requires
+with-course-requires c κs = search needs
+
 returns-3 : tie.Need-returns-3
 returns-3 c =
-    let test = c .before .before in
+    let joined = c .before .before in
+    let test = joined .before in
     let a = test .before .before .before .before .before .args in
     let known = says-yes _ _ (test .before .has-event .ensures (a .self .plan) refl refl) (test .if1 .left) in
-    let unclosed : closedAt (a .self) (a .step) ≡ false = elim (c .before .if2 .came) [
+    let unclosed : closedAt (a .self) (a .step) ≡ false = elim (joined .if2 .came) [
       | inl w ↦ read-in 8 (a .self .closed) (a .step) false (w .0 .taken) ∙ w .1 .left
       | inr w ↦ read-past 8 (a .self .closed) (a .step) false (w .left)
     ] in
     take-accepted (a .self) (Close (a .step)) _
     (close-known (a .self) (a .step) known unclosed)
-    (close-reply (a .self) (a .step) _ (c .after-close .ensures))
+    (close-reply (a .self) (a .step) _ (c .with-course .ensures ∙ course-close (a .self) (a .step) _ (c .before .after-close .ensures)))
 
 pub take-close-spec : {M : Type 1} → statement M
 take-close-spec =
@@ -63,4 +68,5 @@ take-close-spec =
     turn-down-requires-2
     returns-2
     after-close-requires
+    with-course-requires
     returns-3)

@@ -1,6 +1,8 @@
 -- `State::take_submit` meets its contract.
 use borrow.Author.Needs.{needs}
-use mathlib.Core.Path.{sym, _∙_, ap}
+use mathlib.Core.Path.{_≡_, sym, _∙_, ap}
+use Rattle.scheduler.specs.Calls.{submit}
+use Rattle.scheduler.proofs.Courses.{course-submit}
 use Rattle.scheduler.specs.Prelude.{Standing, Submit, Unknown}
 use Rattle.plan.specs.Fates.{blankStanding}
 use Rattle.plan.proofs.Arrays.{read-in}
@@ -20,28 +22,38 @@ returns c =
 after-submit-requires : tie.Need-after-submit-requires
 after-submit-requires c κs = search needs
 
+with-course-requires : tie.Need-with-course-requires
+with-course-requires c κs = search needs
+
+-- the state after the hand-in
+handed : (c : tie.After-with-course)
+    → (let a = c .before .before .before .before .before .args in c .with-course .result ≡ submit (a .self) (a .event))
+handed c =
+    let a = c .before .before .before .before .before .args in
+    c .with-course .ensures ∙ course-submit (a .self) (a .event) _ (c .before .after-submit .ensures)
+
 array-copy-out-standing : tie.Need-array-copy-out-standing
 array-copy-out-standing c = search needs
 
 returns-2 : tie.Need-returns-2
 returns-2 c =
     let made = c .before .before .before in
-    let a = made .before .before .before .before .args in
-    let t = made .after-submit .result in
+    let a = made .before .before .before .before .before .args in
+    let t = made .with-course .result in
     take-accepted (a .self) (Submit (a .event)) _
-    (submit-known (a .self) (a .event) (made .before .if1 .left))
-    (submit-reply (a .self) (a .event) _ _ (made .after-submit .ensures) (sym (ap (λ (v : Standing). v .fate) (read-in 16 (t .standings) (a .event) blankStanding (c .before .if2 .taken)))))
+    (submit-known (a .self) (a .event) (made .before .before .if1 .left))
+    (submit-reply (a .self) (a .event) _ _ (handed made) (sym (ap (λ (v : Standing). v .fate) (read-in 16 (t .standings) (a .event) blankStanding (c .before .if2 .taken)))))
 
 returns-3 : tie.Need-returns-3
 returns-3 c =
     let made = c .before .before in
-    let a = made .before .before .before .before .args in
-    let t = made .after-submit .result in
+    let a = made .before .before .before .before .before .args in
+    let t = made .with-course .result in
     take-accepted (a .self) (Submit (a .event)) _
-    (submit-known (a .self) (a .event) (made .before .if1 .left))
-    (submit-reply (a .self) (a .event) _ _ (made .after-submit .ensures) (sym (fate-past t (a .event) (c .if2 .left))))
+    (submit-known (a .self) (a .event) (made .before .before .if1 .left))
+    (submit-reply (a .self) (a .event) _ _ (handed made) (sym (fate-past t (a .event) (c .if2 .left))))
 
 pub take-submit-spec : {M : Type 1} → statement M
 take-submit-spec =
     tie.close
-    (tie.spec turn-down-requires returns after-submit-requires array-copy-out-standing returns-2 returns-3)
+    (tie.spec turn-down-requires returns after-submit-requires with-course-requires array-copy-out-standing returns-2 returns-3)

@@ -3,7 +3,7 @@ use mathlib.Core.Bool.{Bool, false, not, _||_, or-false}
 use mathlib.Core.Path.{refl, sym, _∙_, ap, ap₂}
 use Rattle.plan.proofs.Arrays.{read-in, read-past}
 use Rattle.scheduler.specs.Answers.{turnsDown}
-use Rattle.scheduler.proofs.CallSteps.{submit-turns, close-turns, finish-turns}
+use Rattle.scheduler.proofs.CallSteps.{submit-turns, close-turns, finish-turns, move-turns}
 use borrow.Author.Needs.{needs}
 use Rattle.scheduler.proofs.state.State.turns_down.Statement.{statement}
 use Rattle.scheduler.proofs.state.State.turns_down.Tie as tie
@@ -55,6 +55,12 @@ returns-3 c =
 returns-4 : tie.Need-returns-4
 returns-4 c = c .has-unclosed .ensures ∙ finish-turns _ ∙ ap (turnsDown _) (sym (c .before .enum-told .given .1))
 
+enum-known-made-3 : tie.Need-enum-known-made-3
+enum-known-made-3 c = search needs
+
+returns-5 : tie.Need-returns-5
+returns-5 c = move-turns _ _ ∙ ap (turnsDown _) (sym (c .before .before .made3 .given .1))
+
 pub turns-down-spec : {M : Type 1} → statement M
 turns-down-spec =
     tie.close
@@ -68,6 +74,8 @@ turns-down-spec =
     has-event-requires-2
     enum-told
     has-unclosed-requires
+    enum-known-made-3
     returns-2
     returns-3
-    returns-4)
+    returns-4
+    returns-5)

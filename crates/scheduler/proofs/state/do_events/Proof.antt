@@ -1,4 +1,4 @@
--- `State::do_events` meets its contract. The loop: what is left of the order and of its marks is still to settle.
+-- `do_events` meets its contract. The loop: what is left of the order and of its marks is still to settle.
 use Prim.Native.Nat.{_+_, _≤_, _-_}
 use native.Mathlib.Omega.{arith}
 use borrow.Author.Needs.{needs}
@@ -7,40 +7,39 @@ use mathlib.Core.Bool.{false}
 use mathlib.Core.Logic.{inl, inr}
 use mathlib.Core.Path.{_≡_, refl, sym, _∙_, ap}
 use lib.ListN.{length, getD, take, drop}
-use Rattle.scheduler.specs.Prelude.{State}
+use Rattle.scheduler.specs.declared.state.Written.{Written}
 use Rattle.plan.specs.Fates.{doneAs}
-use Rattle.scheduler.specs.State.{settleAs}
-use Rattle.scheduler.specs.Internal.Marked.{settleAll}
-use Rattle.scheduler.proofs.SettleLoops.{front-some, front-whole, settle-next, settle-end}
-use Rattle.scheduler.proofs.state.State.do_events.Statement.{statement}
-use Rattle.scheduler.proofs.state.State.do_events.Tie as tie
+use Rattle.scheduler.specs.Internal.Written.{writeOne, writeAll}
+use Rattle.scheduler.proofs.SettleLoops.{front-some, front-whole, write-next, write-end}
+use Rattle.scheduler.proofs.state.do_events.Statement.{statement}
+use Rattle.scheduler.proofs.state.do_events.Tie as tie
 
 abbrev Inv-loop : tie.InvT-loop
-Inv-loop len events opened n next₀ i₀ next i =
+Inv-loop lines len events opened n next₀ i₀ next i =
     (n ≤ 6)
     × (length (take len events) ≡ n)
     × (length (take len opened) ≡ n)
-    × (settleAll next₀ (take len events) (take len opened) ≡ settleAll next (drop i (take len events)) (drop i (take len opened)))
+    × (writeAll next₀ (take len events) (take len opened) ≡ writeAll next (drop i (take len events)) (drop i (take len opened)))
 
 abbrev μ-loop : tie.MeasureT-loop
-μ-loop len events opened n next₀ i₀ next i = n - i
+μ-loop lines len events opened n next₀ i₀ next i = n - i
 
 loop-holds : tie.Need-loop-holds Inv-loop μ-loop
 loop-holds c =
     let a = c .before .args in
-    let six : length (a .t2) ≡ 6 = c .before .good .1 .0 .1 .0 .1 in
-    let six′ : length (a .t3) ≡ 6 = c .before .good .1 .1 .0 .1 .0 .1 in
+    let six : length (a .t4) ≡ 6 = c .before .good .1 .1 .1 .0 .1 .0 .1 in
+    let six′ : length (a .t5) ≡ 6 = c .before .good .1 .1 .1 .1 .0 .1 .0 .1 in
     elim (c .if1 .came) [
       | inl w ↦ (
         omega arith,
-        front-some (a .t2) (a .len) six (w .0 .taken) ∙ sym (w .1),
-        front-some (a .t3) (a .len) six′ (w .0 .taken) ∙ sym (w .1),
+        front-some (a .t4) (a .len) six (w .0 .taken) ∙ sym (w .1),
+        front-some (a .t5) (a .len) six′ (w .0 .taken) ∙ sym (w .1),
         refl,
       )
       | inr w ↦ (
         omega arith,
-        front-whole (a .t2) (a .len) six (w .0 .left) ∙ sym (w .1),
-        front-whole (a .t3) (a .len) six′ (w .0 .left) ∙ sym (w .1),
+        front-whole (a .t4) (a .len) six (w .0 .left) ∙ sym (w .1),
+        front-whole (a .t5) (a .len) six′ (w .0 .left) ∙ sym (w .1),
         refl,
       )
     ]
@@ -60,17 +59,17 @@ array-read-done-as c = omega arith
 done-as-requires : tie.Need-done-as-requires Inv-loop μ-loop
 done-as-requires c κs = tt
 
-cast-t23 : tie.Need-cast-t23 Inv-loop μ-loop
-cast-t23 c = search needs
+cast-t25 : tie.Need-cast-t25 Inv-loop μ-loop
+cast-t25 c = search needs
 
 element-set-from-next : tie.Need-element-set-from-next Inv-loop μ-loop
 element-set-from-next c = search needs
 
-cast-t27 : tie.Need-cast-t27 Inv-loop μ-loop
-cast-t27 c = search needs
+cast-t29 : tie.Need-cast-t29 Inv-loop μ-loop
+cast-t29 c = search needs
 
-mul-t28 : tie.Need-mul-t28 Inv-loop μ-loop
-mul-t28 c = search needs
+mul-t30 : tie.Need-mul-t30 Inv-loop μ-loop
+mul-t30 c = search needs
 
 element-set-from-next-2 : tie.Need-element-set-from-next-2 Inv-loop μ-loop
 element-set-from-next-2 c = search needs
@@ -82,8 +81,8 @@ add-next c = omega arith
 made : (c : tie.Joined3 Inv-loop μ-loop)
     → (let turn = c .before .before .before .before in
     let a = turn .before .before .args in
-    c .if3 .next ≡ settleAs (doneAs (getD (a .t3) (turn .loop .i) false)) (turn .loop .next) (getD (a .t2) (turn .loop .i) 0))
-unfolding settleAs
+    c .if3 .next ≡ writeOne (doneAs (getD (a .t5) (turn .loop .i) false)) (turn .loop .next) (getD (a .t4) (turn .loop .i) 0))
+unfolding writeOne
 made c =
     let told = c .before .before .done-as .ensures in
     elim (c .before .if2 .came) [
@@ -108,14 +107,14 @@ loop-again c =
     let turn = c .before .before .before .before in
     let at = turn .loop in
     let a = turn .before .before .args in
-    let next = settle-next (a .t2) (a .t3) (a .len) (at .i) (at .next) (omega (arith, at .inv .1)) (omega (arith, at .inv .2)) in
-    (at .inv .0, at .inv .1, at .inv .2, at .inv .3 ∙ next ∙ ap (λ (w : State). settleAll w (drop (at .i + 1) (take (a .len) (a .t2))) (drop (at .i + 1) (take (a .len) (a .t3)))) (sym (made c)))
+    let next = write-next (a .t4) (a .t5) (a .len) (at .i) (at .next) (omega (arith, at .inv .1)) (omega (arith, at .inv .2)) in
+    (at .inv .0, at .inv .1, at .inv .2, at .inv .3 ∙ next ∙ ap (λ (w : Written). writeAll w (drop (at .i + 1) (take (a .len) (a .t4))) (drop (at .i + 1) (take (a .len) (a .t5)))) (sym (made c)))
 
 returns : tie.Need-returns Inv-loop μ-loop
 returns c =
     let at = c .before .loop in
     let a = c .before .before .before .args in
-    sym (at .inv .3 ∙ settle-end (a .t2) (a .t3) (a .len) (at .i) (at .next) (omega (arith, at .inv .1)))
+    sym (at .inv .3 ∙ write-end (a .t4) (a .t5) (a .len) (at .i) (at .next) (omega (arith, at .inv .1)))
 
 pub do-events-spec : {M : Type 1} → statement M
 do-events-spec =
@@ -129,10 +128,10 @@ do-events-spec =
     cast-done-as
     array-read-done-as
     done-as-requires
-    cast-t23
+    cast-t25
     element-set-from-next
-    cast-t27
-    mul-t28
+    cast-t29
+    mul-t30
     element-set-from-next-2
     add-next
     add-i

@@ -1,0 +1,119 @@
+-- `take_any_calls` meets its contract. The loop's invariant is `Underway` of Running.antt.
+use Prim.Native.Nat.{_-_}
+use native.Mathlib.Omega.{arith}
+use borrow.Author.Needs.{needs}
+use mathlib.Core.Logic.{inl, inr}
+use mathlib.Core.Path.{sym, _∙_}
+use lib.ListN.{length}
+use Rattle.plan.specs.Calls.{decodeAll}
+use Rattle.plan.proofs.CallDecoding.{decodes-all}
+use Rattle.scheduler.proofs.Sizes.{sized}
+use Rattle.lists.specs.Internal.Underway.{Underway}
+use Rattle.lists.proofs.Running.{begun, inside-listed, less, again-refused, again-taken, ended, bad-ended, listed-room, bad-room}
+use Rattle.lists.proofs.replay.take_any_calls.Statement.{statement}
+use Rattle.lists.proofs.replay.take_any_calls.Tie as tie
+
+abbrev Inv-loop : tie.InvT-loop
+Inv-loop calls verdict next₀ at₀ refused₀ next at refused = Underway decodeAll next₀ calls next at refused
+
+abbrev μ-loop : tie.MeasureT-loop
+μ-loop calls verdict next₀ at₀ refused₀ next at refused = length calls - at
+
+loop-holds : tie.Need-loop-holds Inv-loop μ-loop
+loop-holds c = begun _ _ _ (c .before .pre) (sized _ (c .before .good .0))
+
+any-call-at-requires : tie.Need-any-call-at-requires Inv-loop μ-loop
+any-call-at-requires c κs = tt
+
+enum-known-read : tie.Need-enum-known-read Inv-loop μ-loop
+enum-known-read c = search needs
+
+turns-down-requires : tie.Need-turns-down-requires Inv-loop μ-loop
+turns-down-requires c κs = tt
+
+add-refused : tie.Need-add-refused Inv-loop μ-loop
+add-refused c =
+    let r = c .before .before .before in
+    let a = r .before .before in
+    omega (arith, listed-room decodes-all (a .before .loop .inv) _ (a .any-call-at .ensures) _ (r .read .given .1))
+
+after-call-requires : tie.Need-after-call-requires Inv-loop μ-loop
+after-call-requires c κs = tt
+
+with-course-requires : tie.Need-with-course-requires Inv-loop μ-loop
+with-course-requires c κs = tt
+
+call-size-requires : tie.Need-call-size-requires Inv-loop μ-loop
+call-size-requires c κs = tt
+
+add-at : tie.Need-add-at Inv-loop μ-loop
+add-at c =
+    let r = c .before .before .before .before in
+    let a = r .before .before in
+    let u = a .before .loop .inv in
+    omega (arith, inside-listed decodes-all u _ (a .any-call-at .ensures) _ (r .read .given .1) _ (c .call-size .ensures))
+
+loop-less : tie.Need-loop-less Inv-loop μ-loop
+loop-less c =
+    let r = c .before .before .before .before in
+    let a = r .before .before in
+    omega (arith, less decodes-all (a .before .loop .inv) _ (a .any-call-at .ensures) _ (r .read .given .1) _ (c .call-size .ensures))
+
+loop-again : tie.Need-loop-again Inv-loop μ-loop
+loop-again c =
+    let d = c .before .before in
+    let r = d .before .before in
+    let a = r .before .before in
+    let u = a .before .loop .inv in
+    let is = a .any-call-at .ensures in
+    let h = r .read .given .1 in
+    let size = c .call-size .ensures in
+    let test = sym (d .turns-down .ensures) in
+    elim (c .before .if1 .came) [
+      | inl x ↦ again-refused decodes-all u _ is _ h _ size _ _ (test ∙ x .0 .taken) (x .1) (x .2)
+      | inr x ↦ again-taken decodes-all u _ is _ h _ size _ _ (test ∙ x .0 .left) (x .3 ∙ x .2 .ensures ∙ x .1 .ensures) (x .4)
+    ]
+
+enum-told : tie.Need-enum-told Inv-loop μ-loop
+enum-told c = search needs
+
+returns : tie.Need-returns Inv-loop μ-loop
+returns c =
+    let a = c .before .before in
+    ended decodes-all (a .before .loop .inv) _ (a .any-call-at .ensures) (c .enum-told .given .1)
+
+enum-told-2 : tie.Need-enum-told-2 Inv-loop μ-loop
+enum-told-2 c = search needs
+
+add-t12 : tie.Need-add-t12 Inv-loop μ-loop
+add-t12 c =
+    let a = c .before .before in
+    omega (arith, bad-room decodes-all (a .before .loop .inv) _ (a .any-call-at .ensures) (c .enum-told2 .given .1))
+
+returns-2 : tie.Need-returns-2 Inv-loop μ-loop
+returns-2 c =
+    let a = c .before .before in
+    bad-ended decodes-all (a .before .loop .inv) _ (a .any-call-at .ensures) (c .enum-told2 .given .1)
+
+pub take-any-calls-spec : {M : Type 1} → statement M
+take-any-calls-spec =
+    tie.close
+    (tie.spec
+    Inv-loop
+    μ-loop
+    loop-holds
+    any-call-at-requires
+    enum-known-read
+    turns-down-requires
+    add-refused
+    after-call-requires
+    with-course-requires
+    call-size-requires
+    add-at
+    loop-less
+    loop-again
+    enum-told
+    returns
+    enum-told-2
+    add-t12
+    returns-2)
