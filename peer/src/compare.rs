@@ -27,7 +27,7 @@ pub struct Tally {
     pub pairs: usize,
     pub calls: usize,
     /// Sheets turned down; the place is the number.
-    pub sheets_refused: [usize; 9],
+    pub sheets_refused: [usize; 16],
     /// Calls turned down by 9, 10 and 11, and by not being readable.
     pub no_such: usize,
     pub closed_already: usize,
@@ -97,6 +97,9 @@ impl Tally {
                 Answer::TurnedDown(Reason::NoSuch) => self.no_such += 1,
                 Answer::TurnedDown(Reason::ClosedAlready) => self.closed_already += 1,
                 Answer::TurnedDown(Reason::StepNotClosed) => self.step_not_closed += 1,
+                Answer::TurnedDown(Reason::Backward) | Answer::Advanced => {
+                    unreachable!("a list has no such call")
+                }
                 Answer::Unreadable => self.unreadable += 1,
                 Answer::Finished => self.finished += 1,
                 Answer::Fate(Fate::Held) => self.answered_held += 1,
@@ -146,6 +149,7 @@ impl Tally {
             Cause::Forced => &mut self.forced,
             Cause::Alone => &mut self.alone,
             Cause::Barred => &mut self.barred,
+            Cause::Late => unreachable!("a list stays at the first minute"),
             Cause::NoOrder => &mut self.no_order,
             Cause::WindUp => &mut self.wind_up,
             Cause::Closing => &mut self.lapsed,
@@ -194,7 +198,8 @@ impl Tally {
         ];
         let mut counts: Vec<(String, usize)> = Vec::new();
         counts.extend(named.map(|(name, met)| (name.to_string(), met)));
-        counts.extend(numbered("sheets refused by", &self.sheets_refused, 1));
+        counts.extend(numbered("sheets refused by", &self.sheets_refused[..9], 1));
+        counts.extend(numbered("sheets refused by", &self.sheets_refused, 15));
         counts.extend(numbered("held orders of length", &self.held_orders, 1));
         counts.extend(numbered("forced orders of length", &self.forced_orders, 2));
         counts.extend(numbered("wide orders of length", &self.wide_orders, 1));

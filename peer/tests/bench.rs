@@ -144,6 +144,7 @@ const PREVIEWS: u8 = 0;
 const WRITINGS: u8 = 1;
 const CLOSINGS: u8 = 17;
 const WINDINGS_UP: u8 = 18;
+const MOVES: u8 = 19;
 
 impl<const KIND: u8> Kept for Ignores<KIND> {
     fn open(sheet: &[u8]) -> Ignores<KIND> {
@@ -157,6 +158,7 @@ impl<const KIND: u8> Kept for Ignores<KIND> {
             Call::Submit(_) => false,
             Call::CloseStep(_) => KIND == CLOSINGS,
             Call::Finish => KIND == WINDINGS_UP,
+            Call::Advance(_) => KIND == MOVES,
         };
         if !ignored {
             self.0 = state;
@@ -186,12 +188,29 @@ impl<const KIND: u8> Kept for Ignores<KIND> {
 }
 
 type Idle = Ignores<WINDINGS_UP>;
+type Stopped = Ignores<MOVES>;
+
+/// The single calls that come to something else with another state.
+fn found_in<S: Kept>() -> Vec<Single> {
+    let differs = |single: &Single| single.outcome::<S>() != single.outcome::<Scheduler>();
+    single::list().into_iter().filter(differs).collect()
+}
+
+/// Only the move that has something to do tells.
+#[test]
+fn a_state_that_stays_at_its_minute_is_found() {
+    let found = found_in::<Stopped>();
+    let names: Vec<&str> = found.iter().map(|single| single.name).collect();
+    let expected = "a move that sixteen held events are done at (on a copy)";
+    assert_eq!(names, [expected]);
+    assert!(found[0].work::<Stopped>().is_err());
+    assert!(found[0].work::<Scheduler>().is_ok());
+}
 
 /// Only the winding up that has something to do tells.
 #[test]
 fn a_wrong_state_is_found() {
-    let differs = |single: &Single| single.outcome::<Idle>() != single.outcome::<Scheduler>();
-    let found: Vec<Single> = single::list().into_iter().filter(differs).collect();
+    let found = found_in::<Idle>();
     let names: Vec<&str> = found.iter().map(|single| single.name).collect();
     assert_eq!(names, ["a winding up of sixteen held events (on a copy)"]);
     assert!(found[0].work::<Idle>().is_err());

@@ -26,7 +26,7 @@ fn any_call(random: &mut Random, image: &Image) -> Call {
     match random.below(8) {
         0..=4 => Call::Submit(random.below(usize::from(image[EVENTS]) + 1) as u8),
         5 | 6 => Call::CloseStep(random.below(9) as u8),
-        _ => Call::Finish,
+        _ => random.pick(&[Call::Finish, Call::Advance(0), Call::Advance(1)]),
     }
 }
 

@@ -96,7 +96,7 @@ fn marks_whole_orders(image: &mut Image, call: Call) -> u8 {
 fn marks_the_event_alone(image: &mut Image, call: Call) -> u8 {
     let number = LIBRARY(image, call);
     let bare = unmarked(image);
-    image[LINE_FATE..SPARE].copy_from_slice(&bare[LINE_FATE..SPARE]);
+    image[LINE_FATE..MINUTE].copy_from_slice(&bare[LINE_FATE..MINUTE]);
     number
 }
 
@@ -437,7 +437,7 @@ fn a_line_says_forced_of_a_forced_event_only() {
         }
     }
     // Past the counts any fate will do.
-    for place in [FATE + 2, BROKEN - 1, LINE_FATE + 2, SPARE - 1] {
+    for place in [FATE + 2, BROKEN - 1, LINE_FATE + 2, MINUTE - 1] {
         for (fate, passes) in [(FORCED, true), (6, false)] {
             let mut image = image;
             image[place] = fate;

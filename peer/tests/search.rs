@@ -1,5 +1,5 @@
-//! The peer against a plain reading of document 01, of S-5 and of S-6 that tries every
-//! order. No library is needed for it.
+//! The peer against a plain reading of document 01 and of S-5 to S-7 that tries every order.
+//! No library is needed for it.
 
 #[allow(dead_code)]
 mod plain;
@@ -8,8 +8,9 @@ use peer::compare::{pair, SEED};
 use peer::peer::report::report;
 use peer::peer::search::Search;
 use peer::peer::set::{has, members, one, Set};
+use peer::peer::sheet::Window;
 use peer::peer::{trace, Sheet, State};
-use peer::random::{waiting_sheet, Random};
+use peer::random::{waiting_sheet, windowed_sheet, Random};
 use plain::{Fate, Plain};
 
 const PAIRS: usize = 20_000;
@@ -86,6 +87,18 @@ struct Both {
 type Sheets = fn(&mut Random) -> Vec<u8>;
 const ANY: Sheets = |random| pair(random).0;
 const WAITING: Sheets = |random| waiting_sheet(random).made.bytes;
+const TIMED: Sheets = |random| windowed_sheet(random).made.bytes;
+
+/// A minute at which one of the windows opens, is open or is over; the first where there is
+/// none.
+fn any_minute(random: &mut Random, sheet: &Sheet) -> u32 {
+    let windows: Vec<Window> = sheet.windows.values().copied().collect();
+    if windows.is_empty() {
+        return 0;
+    }
+    let window = random.pick(&windows);
+    random.pick(&[0, window.from, window.from, window.until - 1, window.until])
+}
 
 /// A random state of a random sheet, if that is admitted.
 fn any_state(random: &mut Random, sheets: Sheets, most: u32) -> Option<Both> {
@@ -97,6 +110,7 @@ fn any_state(random: &mut Random, sheets: Sheets, most: u32) -> Option<Both> {
     let broken: Vec<bool> = rules.map(|_| random.percent(chance)).collect();
     let mut plain = Plain::read(&bytes);
     plain.put(&fates, &broken);
+    plain.minute = any_minute(random, &sheet);
     let forced = events_with(&fates, Fate::Forced);
     let mut state = State {
         held: events_with(&fates, Fate::Held),
@@ -104,6 +118,7 @@ fn any_state(random: &mut Random, sheets: Sheets, most: u32) -> Option<Both> {
         forced,
         refused: events_with(&fates, Fate::Refused),
         lapsed: events_with(&fates, Fate::Lapsed),
+        minute: plain.minute,
         ..State::default()
     };
     for (rule, is_broken) in broken.into_iter().enumerate() {
@@ -193,6 +208,15 @@ fn search_finds_the_first_order_beside_open_events() {
     assert!(met[1][2..4].iter().all(|count| *count > 100), "{met:?}");
 }
 
+/// Where events have windows; orders are rarer and shorter for that.
+#[test]
+fn search_finds_the_first_order_at_a_minute() {
+    let met = agree_on_states(SEED ^ 0x717e, TIMED, STATES, 0, MOST - 1);
+    println!("{met:?}");
+    assert!(met[0][1..5].iter().all(|count| *count > 100), "{met:?}");
+    assert!(met[1][2..5].iter().all(|count| *count > 100), "{met:?}");
+}
+
 /// What S-4 rests on, tried out: the shortest viable orders for an event are
 /// made of the same events.
 #[test]
@@ -200,7 +224,7 @@ fn shortest_orders_have_the_same_events() {
     let mut random = Random::new(SEED ^ 0x5a3e);
     let mut several = 0;
     for _ in 0..STATES {
-        let sheets = random.pick(&[ANY, ANY, WAITING]);
+        let sheets = random.pick(&[ANY, ANY, WAITING, TIMED]);
         let Some(mut both) = any_state(&mut random, sheets, MOST - 1) else {
             continue;
         };

@@ -11,7 +11,7 @@ use peer::images::FILL;
 use peer::library::{raw, STATE_LEN};
 use peer::peer::sheet::{records, Sheet};
 use peer::peer::write::LONGEST;
-use peer::random::Random;
+use peer::random::{window_record, Random};
 
 /// Everything that the comparison is about has to be met this often, and each number.
 const LEAST: usize = 150;
@@ -74,6 +74,36 @@ fn puts_rules_first(image: &mut Image, out: &mut [u8]) -> (u8, usize) {
     let (events, rest) = sheet.split_at(usize::from(image[EVENTS]) * 3);
     let (end, rules) = rest.split_last().expect("an end");
     put(image, &[rules, events, &[*end]].concat(), out)
+}
+
+/// The records of the state in another sequence, or without some.
+fn rearranged(image: &Image, out: &mut [u8], change: impl Fn(&mut Vec<Vec<u8>>)) -> (u8, usize) {
+    let sheet = as_sheet(image);
+    let mut all: Vec<Vec<u8>> = records(&sheet)
+        .iter()
+        .map(|record| record.to_vec())
+        .collect();
+    change(&mut all);
+    all.push(vec![5]);
+    put(image, &all.concat(), out)
+}
+
+fn puts_windows_before_rules(image: &mut Image, out: &mut [u8]) -> (u8, usize) {
+    let place = |record: &Vec<u8>| [0, 1, 3, 3, 3, 5, 1, 2][usize::from(record[0])];
+    rearranged(image, out, |all| all.sort_by_key(place))
+}
+
+fn puts_higher_windows_first(image: &mut Image, out: &mut [u8]) -> (u8, usize) {
+    rearranged(image, out, |all| {
+        let windows = all.iter().position(|record| record[0] == 7);
+        if let Some(first) = windows {
+            all[first..].reverse();
+        }
+    })
+}
+
+fn forgets_windows(image: &mut Image, out: &mut [u8]) -> (u8, usize) {
+    rearranged(image, out, |all| all.retain(|record| record[0] != 7))
 }
 
 /// Names the lower trigger of a conditional first.
@@ -198,10 +228,13 @@ fn forgets_history(image: &mut Image, out: &mut [u8]) -> (u8, usize) {
 /// noticed.
 #[test]
 fn the_comparison_of_sheets_can_fail() {
-    let wrong: [(Write, &str); 17] = [
+    let wrong: [(Write, &str); 20] = [
         (joins_fours, "the length"),
         (puts_rules_first, "the buffer"),
         (sorts_triggers, "the buffer"),
+        (puts_windows_before_rules, "the buffer"),
+        (puts_higher_windows_first, "the buffer"),
+        (forgets_windows, "the length"),
         (writes_every_place, "the length"),
         (tests_length_first, "the number"),
         (takes_one_too_few, "the number"),
@@ -210,7 +243,7 @@ fn the_comparison_of_sheets_can_fail() {
         (writes_when_turned_down, "the buffer"),
         (loses_length, "the length"),
         (gives_length_of_no_state, "the length"),
-        (counts_in_a_byte, "the number"),
+        (counts_in_a_byte, "not written"),
         (stops_below_longest, "not written"),
         (writes_no_end_alone, "the number"),
         (writes_first_states_alone, "the number"),
@@ -334,20 +367,25 @@ fn the_empty_state_is_one_byte() {
     }
 }
 
-/// Sixteen events and sixteen conditionals, from records of one event and of four.
+/// Sixteen events and sixteen conditionals, with sixteen windows, and without from records
+/// of one event and of four.
 #[test]
 fn the_longest_sheet_is_written() {
     let rules = (0..16).flat_map(|rule| [4, (rule + 2) % 16, rule, (rule + 1) % 16]);
-    let rules: Vec<u8> = rules.chain([5]).collect();
+    let rules: Vec<u8> = rules.collect();
     let delayable: Vec<u8> = (0..16).flat_map(|event| [1, event % 8, 6]).collect();
-    let sheet = [delayable, rules].concat();
-    assert_eq!((sheet.len(), LONGEST), (113, 113));
+    let windows = (0..16).flat_map(|event| window_record(event, 1 << event, u32::MAX));
+    let windows: Vec<u8> = windows.chain([5]).collect();
+    let without = [&delayable[..], &rules, &[5]].concat();
+    check(&led_to(&without, &[]), &without);
+    let sheet = [&delayable[..], &rules, &windows].concat();
+    assert_eq!((sheet.len(), LONGEST), (273, 273));
     check(&led_to(&sheet, &[]), &sheet);
     let rules = [4, 2, 0, 3, 4, 6, 4, 7, 4, 10, 8, 11, 4, 14, 12, 15].repeat(4);
     let fours = [&[6, 0, 6, 5, 6, 2, 6, 7][..], &rules, &[5]].concat();
     let events = [0, 5, 2, 7].map(|step| [1, step, 7, 1, step, 0, 1, step, 6, 1, step, 1]);
     let sheet = [&events.concat()[..], &rules, &[5]].concat();
-    assert_eq!(sheet.len(), LONGEST);
+    assert_eq!(sheet.len(), without.len());
     check(&led_to(&fours, &[]), &sheet);
 }
 

@@ -25,7 +25,7 @@ use peer::peer::report::report;
 use peer::peer::{self as second, trace, Scheduler, Sheet};
 use peer::random::{waiting_calls, waiting_sheet, Random};
 use plain::{Beside, Plain};
-use Call::{CloseStep, Finish, Submit};
+use Call::{Advance, CloseStep, Finish, Submit};
 
 /// Everything that the comparison is about has to be met this often, and this many cases
 /// decided by S-6.
@@ -188,6 +188,7 @@ fn bytes(calls: &[Call]) -> Vec<u8> {
         Submit(event) => vec![16, event],
         CloseStep(step) => vec![17, step],
         Finish => vec![18],
+        Advance(_) => unreachable!("no list has this call"),
     });
     bytes.collect::<Vec<Vec<u8>>>().concat()
 }

@@ -1,5 +1,7 @@
-//! Sheets and calls as bytes, and the two fullest states as a sheet with the
+//! Sheets and calls as bytes, and the three fullest states as a sheet with the
 //! calls that lead to them.
+
+use crate::random::window_record;
 
 /// A sheet and a list of calls.
 pub type Pair = (Vec<u8>, Vec<u8>);
@@ -47,4 +49,14 @@ pub fn all_settled() -> Pair {
 /// no step is closed.
 pub fn all_held() -> Pair {
     (sheet(16, 6, ring(16, 2)), hand_ins(16))
+}
+
+/// Sixteen events held, as their windows open at minute 1, under sixteen orders that they
+/// can be done in; no step is closed.
+pub fn all_early() -> Pair {
+    let row = (0..15).map(|event| [2, event, event + 1]);
+    let mut sheet = sheet(16, 6, row.chain([[2, 0, 2]]));
+    let windows = (0..16).flat_map(|event| window_record(event, 1, 2));
+    sheet.splice(sheet.len() - 1..sheet.len() - 1, windows);
+    (sheet, hand_ins(16))
 }

@@ -32,6 +32,7 @@ impl Kept for State {
             Call::Submit(event) => self.submit(event).map(|_| ()),
             Call::CloseStep(step) => self.close_step(step),
             Call::Finish => self.finish(),
+            Call::Advance(minute) => self.advance(minute),
         };
         answer.map_or_else(|fault| fault.number(), |()| 0)
     }

@@ -5,7 +5,7 @@
 //! The library tests number 12 in each, as any bytes could be given to it; the peer never
 //! does.
 
-use super::bytes::{all_held, all_settled, closings, hand_ins, star, Pair};
+use super::bytes::{all_early, all_held, all_settled, closings, hand_ins, star, Pair};
 use super::kept::{make_all, Kept};
 use super::timing::Work;
 use crate::peer::calls::Call;
@@ -27,7 +27,8 @@ pub struct Single {
 }
 
 pub fn list() -> Vec<Single> {
-    on_settled().into_iter().chain(on_held()).collect()
+    let (settled, held) = (on_settled().into_iter(), on_held());
+    settled.chain(held).chain(on_early()).collect()
 }
 
 /// Where all sixteen events are settled.
@@ -74,6 +75,23 @@ fn on_held() -> [Single; 5] {
             "a hand-in that fifteen wait for (on a copy)",
             &waiting(),
             Call::Submit(WAITED_FOR),
+        ),
+    ]
+}
+
+/// Where sixteen events are held until their windows open.
+fn on_early() -> [Single; 2] {
+    let early = all_early();
+    [
+        single(
+            "a move to the same minute, sixteen held",
+            &early,
+            Call::Advance(0),
+        ),
+        single(
+            "a move that sixteen held events are done at (on a copy)",
+            &early,
+            Call::Advance(1),
         ),
     ]
 }

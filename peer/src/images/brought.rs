@@ -114,6 +114,7 @@ pub fn scheduler(image: &Image) -> Option<Scheduler> {
         lapsed: of_fate(Fate::Lapsed),
         broken: places(image, BROKEN, image[RULES], 1),
         closed: places(image, CLOSED, 8, 1),
+        minute: minute_at(image, MINUTE),
     };
     let settled = &image[LINE_EVENT..][..usize::from(image[LINES])];
     Some(Scheduler::bring(sheet, state, settled))
@@ -125,7 +126,7 @@ fn places(image: &Image, row: usize, count: u8, value: u8) -> Set {
     fitting.fold(0, |set, place| set | one(place))
 }
 
-/// A sheet that declares what the bytes do.
+/// A sheet that declares what the bytes do. Those of no state may count anything.
 pub fn as_sheet(image: &Image) -> Vec<u8> {
     let mut bytes = Vec::new();
     for event in 0..usize::from(image[EVENTS]) {
@@ -136,6 +137,12 @@ pub fn as_sheet(image: &Image) -> Vec<u8> {
         bytes.extend([kind, image[RULE_A + rule], image[RULE_B + rule]]);
         if kind == 4 {
             bytes.push(image[RULE_C + rule]);
+        }
+    }
+    for event in 0..usize::from(image[EVENTS]).min(MOST_EVENTS) {
+        if let Some([from, until]) = window_of(image, event) {
+            bytes.extend([7, event as u8]);
+            bytes.extend([from, until].map(u32::to_le_bytes).concat());
         }
     }
     bytes.push(5);

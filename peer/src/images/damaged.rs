@@ -11,7 +11,7 @@ use crate::compare::{hex, missing, numbered};
 use crate::library::{raw, State, LONGEST_REPORT, STATE_LEN};
 use crate::peer::calls::{Answer, Call, Run};
 use crate::peer::report::report;
-use crate::random::{any_call, sheet, single_calls, Made, Random};
+use crate::random::{any_call, any_minute, sheet, single_calls, Made, Random};
 
 /// The states of the test, and the damaged copies of each.
 pub const STATES: usize = 6_000;
@@ -21,6 +21,8 @@ const CALLS: usize = 6;
 /// The copies with another mark and nothing else, and the changed bytes that are a fate.
 const MARK_PERCENT: u64 = 10;
 const FATE_PERCENT: u64 = 12;
+/// The changed bytes that are of the minute or of a window.
+const TIME_PERCENT: u64 = 8;
 /// Calls turned down, for a report.
 const REFUSED: usize = 7;
 /// The least number that is no fate.
@@ -45,6 +47,7 @@ fn make(image: &mut Image, call: Call) -> u8 {
         Call::Submit(event) => raw::submit(image, event),
         Call::CloseStep(step) => raw::close_step(image, step),
         Call::Finish => raw::finish(image),
+        Call::Advance(minute) => raw::advance(image, minute),
     }
 }
 
@@ -106,9 +109,7 @@ fn any_change(random: &mut Random, image: &Image) -> (usize, u8) {
         let fate = random.pick(&[DONE, FORCED, FORCED, NO_FATE]);
         return (row + random.below(16), fate);
     }
-    // Often in the counts, and seldom in the spare bytes, which are more than half.
-    let end = random.pick(&[STEP, STEP, SPARE, SPARE, SPARE, SPARE, SPARE, STATE_LEN]);
-    let place = random.below(end);
+    let place = any_place(random);
     let value = match random.below(10) {
         0..=2 => random.byte(),
         3..=6 => random.below(17) as u8,
@@ -116,6 +117,21 @@ fn any_change(random: &mut Random, image: &Image) -> (usize, u8) {
         _ => image[place].wrapping_sub(1),
     };
     (place, value)
+}
+
+/// Often in the counts, and seldom in the spare bytes.
+fn any_place(random: &mut Random) -> usize {
+    if random.percent(TIME_PERCENT) {
+        let row = random.pick(&[MINUTE, FROM, UNTIL, UNTIL]);
+        return match row {
+            MINUTE => row + random.below(FROM - MINUTE),
+            row => row + random.below(SPARE - UNTIL),
+        };
+    }
+    let end = random.pick(&[
+        STEP, STEP, MINUTE, MINUTE, MINUTE, MINUTE, MINUTE, STATE_LEN,
+    ]);
+    random.below(end)
 }
 
 impl Functions {
@@ -182,6 +198,11 @@ impl Functions {
         expect("check after it", (self.check)(state), 0)?;
         expect("still a state", is_sound(state), true)?;
         expect("only what calls change", same_plan(&before, state), true)?;
+        expect(
+            "the minute",
+            minute_at(state, MINUTE),
+            minute_after(&before, call),
+        )?;
         expect("its history goes on", goes_on(&before, state), true)
     }
 }
@@ -205,7 +226,8 @@ fn fitting_call(random: &mut Random) -> Call {
     match random.below(10) {
         0..=4 => Call::Submit(random.below(16) as u8),
         5..=7 => Call::CloseStep(random.below(8) as u8),
-        8 => Call::Finish,
+        8 => random.pick(&[Call::Finish, Call::Advance(0)]),
+        9 if random.percent(50) => Call::Advance(any_minute(random)),
         _ => any_call(random),
     }
 }
@@ -219,15 +241,24 @@ fn number_on(image: &Image, call: Call) -> u8 {
         Call::CloseStep(step) if !steps.contains(&step) => 9,
         Call::CloseStep(step) if is_closed(&step) => 10,
         Call::Finish if !steps.iter().all(is_closed) => 11,
+        Call::Advance(minute) if minute < minute_at(image, MINUTE) => 16,
         _ => 0,
     }
 }
 
-/// All but the fates, marks and lines.
+/// The minute after a call that is taken.
+fn minute_after(before: &Image, call: Call) -> u32 {
+    match call {
+        Call::Advance(minute) => minute,
+        _ => minute_at(before, MINUTE),
+    }
+}
+
+/// All but the fates, marks and lines, and the minute.
 fn same_plan(before: &Image, after: &Image) -> bool {
     before[..LINES] == after[..LINES]
         && before[STEP..FATE] == after[STEP..FATE]
-        && before[SPARE..] == after[SPARE..]
+        && before[FROM..] == after[FROM..]
 }
 
 fn goes_on(before: &Image, after: &Image) -> bool {
@@ -238,12 +269,14 @@ fn goes_on(before: &Image, after: &Image) -> bool {
 }
 
 /// The parts of a state, by where the next begins.
-const PARTS: [(&str, usize); 6] = [
+const PARTS: [(&str, usize); 8] = [
     ("the counts", STEP),
     ("events", RULE_KIND),
     ("rules", FATE),
     ("fates and marks", LINE_EVENT),
-    ("the history", SPARE),
+    ("the history", MINUTE),
+    ("the minute", FROM),
+    ("windows", SPARE),
     ("the spare bytes", STATE_LEN),
 ];
 
@@ -257,8 +290,8 @@ pub struct Tally {
     pub passed: [usize; 2],
     /// Bytes turned down for one byte, and bytes passed with one byte changed, by
     /// the part that the byte is of.
-    pub turned_down_for: [usize; 6],
-    pub passed_with: [usize; 6],
+    pub turned_down_for: [usize; 8],
+    pub passed_with: [usize; 8],
     /// Bytes with a fate changed to forced, of an event and of a line, turned down and
     /// passed; those with one changed to 6, which is no fate.
     pub changed_to_forced: [[usize; 2]; 2],
@@ -271,7 +304,7 @@ pub struct Tally {
     pub forced: usize,
     pub unforcible: usize,
     /// Numbers of calls on bytes that pass; calls that changed them.
-    pub numbers: [usize; 13],
+    pub numbers: [usize; 17],
     pub changed: usize,
 }
 
@@ -292,7 +325,7 @@ impl Tally {
     }
 
     fn add_fates(&mut self, image: &Image, sound: bool, places: &[usize]) {
-        for (of, row) in [FATE..BROKEN, LINE_FATE..SPARE].iter().enumerate() {
+        for (of, row) in [FATE..BROKEN, LINE_FATE..MINUTE].iter().enumerate() {
             let changed = places.iter().filter(|place| row.contains(place));
             let to: Vec<u8> = changed.map(|place| image[*place]).collect();
             let to = |fate| usize::from(to.contains(&fate));
@@ -309,8 +342,8 @@ impl Tally {
         }
     }
 
-    /// The first thing that was met fewer than `least` times. A changed spare byte
-    /// never passes.
+    /// The first thing that was met fewer than `least` times. A changed spare byte never
+    /// passes, and one of the minute always does.
     pub fn missing(&self, least: usize) -> Option<String> {
         let [one_down, several_down] = self.turned_down;
         let [one_passed, several_passed] = self.passed;
@@ -336,9 +369,12 @@ impl Tally {
         let mut counts: Vec<(String, usize)> = Vec::new();
         counts.extend(named.map(|(name, met)| (name.to_string(), met)));
         counts.extend(numbered("calls turned down by", &self.numbers[..12], 9));
+        counts.extend(numbered("calls turned down by", &self.numbers, 16));
         for (part, (name, _)) in PARTS.iter().enumerate() {
-            let down = self.turned_down_for[part];
-            counts.push((format!("turned down for {name}"), down));
+            if *name != "the minute" {
+                let down = self.turned_down_for[part];
+                counts.push((format!("turned down for {name}"), down));
+            }
             if *name != "the spare bytes" {
                 counts.push((
                     format!("passed with another byte in {name}"),

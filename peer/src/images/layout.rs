@@ -21,7 +21,11 @@ pub const BROKEN: usize = 116;
 pub const CLOSED: usize = 132;
 pub const LINE_EVENT: usize = 140;
 pub const LINE_FATE: usize = 156;
-pub const SPARE: usize = 172;
+pub const MINUTE: usize = 172;
+/// Four bytes for each event, the lowest first; both 0 where it has no window.
+pub const FROM: usize = 176;
+pub const UNTIL: usize = 240;
+pub const SPARE: usize = 304;
 
 /// The least event that no state declares.
 pub const BEYOND: u8 = 16;
@@ -53,6 +57,13 @@ pub fn first(sheet: &[u8]) -> Image {
             [4, a, b, c, ref rest @ ..] => {
                 add_rule(&mut image, [4, a, b, c]);
                 rest
+            }
+            [7, event, ref rest @ ..] => {
+                let (from, after) = rest.split_at(4);
+                let (until, after) = after.split_at(4);
+                image[FROM + 4 * usize::from(event)..][..4].copy_from_slice(from);
+                image[UNTIL + 4 * usize::from(event)..][..4].copy_from_slice(until);
+                after
             }
             _ => return image,
         }
@@ -89,11 +100,28 @@ pub fn put(image: &mut Image, scheduler: &Scheduler) {
     for step in 0..8 {
         image[CLOSED + usize::from(step)] = u8::from(has(state.closed, step));
     }
+    put_minute(image, MINUTE, state.minute);
     image[LINES] = scheduler.history().len() as u8;
     for (place, line) in scheduler.history().iter().enumerate() {
         image[LINE_EVENT + place] = line.event;
         image[LINE_FATE + place] = number(line.fate);
     }
+}
+
+/// The minute that stands at a place.
+pub fn minute_at(image: &Image, place: usize) -> u32 {
+    let bytes = std::array::from_fn(|byte| image[place + byte]);
+    u32::from_le_bytes(bytes)
+}
+
+pub fn put_minute(image: &mut Image, place: usize, minute: u32) {
+    image[place..place + 4].copy_from_slice(&minute.to_le_bytes());
+}
+
+/// An event's window, from and until; none where both are 0.
+pub fn window_of(image: &Image, event: usize) -> Option<[u32; 2]> {
+    let window = [FROM, UNTIL].map(|row| minute_at(image, row + 4 * event));
+    (window != [0, 0]).then_some(window)
 }
 
 /// The header's number of a fate.

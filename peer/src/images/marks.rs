@@ -22,7 +22,7 @@ pub fn bare(fate: u8) -> u8 {
 /// The bytes with every forced event written as done.
 pub fn unmarked(image: &Image) -> Image {
     let mut copy = *image;
-    for row in [FATE..BROKEN, LINE_FATE..SPARE] {
+    for row in [FATE..BROKEN, LINE_FATE..MINUTE] {
         copy[row].iter_mut().for_each(|fate| *fate = bare(*fate));
     }
     copy

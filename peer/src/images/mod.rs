@@ -9,7 +9,7 @@
 //! on them `batches` compares after every batch, `previews` and `sheets` after every
 //! call. `marks` takes the mark of a forced event off and puts it on, and `forced` makes
 //! the same calls with the mark and without. `waiting` has conditionals of which nothing
-//! can stop a or b.
+//! can stop a or b, and `windows` has windows of time.
 
 pub mod batches;
 pub mod brought;
@@ -23,6 +23,7 @@ pub mod sheets;
 pub mod single;
 pub mod sound;
 pub mod waiting;
+pub mod windows;
 
 /// What is lent holds this before the library may write it: more than a count, a number or
 /// a fate can be.

@@ -38,6 +38,9 @@ pub struct Shown {
     /// Of rules 0 to 16.
     pub broken: Vec<bool>,
     pub history: Vec<(u8, u8)>,
+    pub minute: u32,
+    /// Of events 0 to 16, from and until.
+    pub windows: Vec<Option<[u32; 2]>>,
 }
 
 impl Host for State {
@@ -50,6 +53,7 @@ impl Host for State {
             Call::Submit(event) => self.submit(event).map(|fate| Some(fate.number())),
             Call::CloseStep(step) => self.close_step(step).map(|()| None),
             Call::Finish => self.finish().map(|()| None),
+            Call::Advance(minute) => self.advance(minute).map(|()| None),
         };
         match answer {
             Ok(fate) => (0, fate),
@@ -72,6 +76,8 @@ impl Host for State {
                 .history()
                 .map(|(event, fate)| (event, fate.number()))
                 .collect(),
+            minute: self.minute(),
+            windows: row(|event| self.window(event).map(|window| [window.from, window.until])),
         }
     }
 
@@ -99,6 +105,11 @@ fn peer_shows(peer: &Scheduler) -> Shown {
             .iter()
             .map(|line| (line.event, number(line.fate)))
             .collect(),
+        minute: state.minute,
+        windows: row(|event| {
+            let window = peer.sheet().windows.get(&event);
+            window.map(|window| [window.from, window.until])
+        }),
     }
 }
 
@@ -200,7 +211,7 @@ pub struct Tally {
     pub pairs: usize,
     pub calls: usize,
     /// Sheets turned down; the place is the number.
-    pub sheets_refused: [usize; 9],
+    pub sheets_refused: [usize; 16],
     /// Hand-ins and closings turned down by 9, and calls by 10 and by 11.
     pub no_such_event: usize,
     pub no_such_step: usize,
@@ -215,6 +226,9 @@ pub struct Tally {
     /// Closings and windings up that were taken.
     pub closed: usize,
     pub finished: usize,
+    /// Moves of the minute that were taken, and those that 16 met.
+    pub advanced: usize,
+    pub backward: usize,
     /// Lists with a rule recorded as broken, and with an event held at the end.
     pub broken: usize,
     pub held_at_end: usize,
@@ -237,6 +251,8 @@ impl Tally {
             }
             (Answer::Closed, _) => self.closed += 1,
             (Answer::Finished, _) => self.finished += 1,
+            (Answer::Advanced, _) => self.advanced += 1,
+            (Answer::TurnedDown(Reason::Backward), _) => self.backward += 1,
             (Answer::Unreadable, _) => {}
         }
     }
@@ -252,12 +268,19 @@ impl Tally {
             ("lines that say forced", self.forced),
             ("closings", self.closed),
             ("windings up", self.finished),
+            ("moves of the minute", self.advanced),
+            ("moves turned down by 16", self.backward),
             ("lists with a broken rule", self.broken),
             ("lists with an event held to the end", self.held_at_end),
         ];
         let mut counts: Vec<(String, usize)> = Vec::new();
         counts.extend(named.map(|(name, met)| (name.to_string(), met)));
-        counts.extend(numbered("sheets turned down by", &self.sheets_refused, 1));
+        counts.extend(numbered(
+            "sheets turned down by",
+            &self.sheets_refused[..9],
+            1,
+        ));
+        counts.extend(numbered("sheets turned down by", &self.sheets_refused, 15));
         counts.extend(numbered("hand-ins answered with fate", &self.answered, 1));
         missing(counts, least)
     }

@@ -12,7 +12,7 @@ const REJECTABLE: u8 = 2;
 const DELAYABLE: u8 = 4;
 
 pub fn is_sound(image: &Image) -> bool {
-    is_image(image) && counts_fit(image) && is_coherent(image)
+    is_image(image) && counts_fit(image) && is_coherent(image) && windows_fit(image)
 }
 
 /// The bytes that a state can be written with. Places beyond the counts are
@@ -27,7 +27,7 @@ fn is_image(image: &Image) -> bool {
         && rules.all(|rule| image[RULE_KIND + rule] == 4 || image[RULE_C + rule] == 0)
         && all(FATE..BROKEN, |fate| fate <= FORCED)
         && all(BROKEN..LINE_EVENT, |mark| mark <= 1)
-        && all(LINE_FATE..SPARE, |fate| fate <= FORCED)
+        && all(LINE_FATE..MINUTE, |fate| fate <= FORCED)
         && all(SPARE..image.len(), |spare| spare == 0)
 }
 
@@ -67,6 +67,17 @@ fn event_fits(image: &Image, event: usize) -> bool {
             HELD => own.is_empty() && sum & DELAYABLE != 0,
             _ => own == [fate],
         }
+}
+
+/// A window is one that a sheet could give its event. There is none past the events.
+fn windows_fit(image: &Image) -> bool {
+    (0..16).all(|event| match window_of(image, event) {
+        None => true,
+        Some([from, until]) => {
+            let delayable = image[ATTRIBUTES + event] & DELAYABLE != 0;
+            event < usize::from(image[EVENTS]) && delayable && from < until
+        }
+    })
 }
 
 /// The triggers of a rule and its goal; of an order both events, and no goal.

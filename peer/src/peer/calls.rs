@@ -8,6 +8,8 @@ pub enum Call {
     Submit(u8),
     CloseStep(u8),
     Finish,
+    /// Moves the minute. No list's record has this call.
+    Advance(u32),
 }
 
 /// What one call record came to.
@@ -16,6 +18,7 @@ pub enum Answer {
     Fate(Fate),
     Closed,
     Finished,
+    Advanced,
     TurnedDown(Reason),
     /// Another kind or a cut record. The reading of a list ends there; a batch goes
     /// on after it.
@@ -53,6 +56,7 @@ pub fn apply(scheduler: &mut Scheduler, call: Call) -> Answer {
         Call::Submit(event) => scheduler.submit(event).map(Answer::Fate),
         Call::CloseStep(step) => scheduler.close_step(step).map(|()| Answer::Closed),
         Call::Finish => scheduler.finish().map(|()| Answer::Finished),
+        Call::Advance(minute) => scheduler.advance(minute).map(|()| Answer::Advanced),
     };
     answer.unwrap_or_else(Answer::TurnedDown)
 }

@@ -1,4 +1,4 @@
-//! The state of a sheet under way and the three calls.
+//! The state of a sheet under way and the four calls.
 
 use super::rules::{Rule, Standing};
 use super::search::{Order, Search};
@@ -28,6 +28,8 @@ pub enum Cause {
     Alone,
     /// Refused while held, because barred.
     Barred,
+    /// Refused while held, because its window is over.
+    Late,
     /// Refused when handed in: rejectable, not delayable, no viable order.
     NoOrder,
     /// Refused while winding up.
@@ -55,6 +57,8 @@ pub enum Reason {
     ClosedAlready = 10,
     /// 11: wound up too early, with a step of the sheet still open.
     StepNotClosed = 11,
+    /// 16: a minute below the current one.
+    Backward = 16,
 }
 
 /// The fates as sets; an event in none of them is open.
@@ -71,6 +75,8 @@ pub struct State {
     pub broken: Set,
     /// Closed steps, one bit for each.
     pub closed: Set,
+    /// The current minute.
+    pub minute: u32,
 }
 
 impl State {
@@ -257,6 +263,17 @@ impl Scheduler {
         Ok(())
     }
 
+    /// Moves the minute forward and settles there. What a minute in between would have
+    /// let through does not count.
+    pub fn advance(&mut self, minute: u32) -> Result<(), Reason> {
+        if minute < self.state.minute {
+            return Err(Reason::Backward);
+        }
+        self.state.minute = minute;
+        self.settle();
+        Ok(())
+    }
+
     /// The branches for an event that is not delayable. Nothing is settled
     /// before them.
     fn decide(&mut self, event: u8) {
@@ -271,8 +288,8 @@ impl Scheduler {
 
     fn settle(&mut self) {
         while self.state.held != 0 {
-            if let Some(event) = self.lowest_barred() {
-                self.enter(event, Fate::Refused, Cause::Barred);
+            if let Some((event, cause)) = self.lowest_barred() {
+                self.enter(event, Fate::Refused, cause);
                 continue;
             }
             match self.chosen(self.state.held) {
@@ -290,10 +307,17 @@ impl Scheduler {
         order
     }
 
-    fn lowest_barred(&self) -> Option<u8> {
+    /// The lowest held event that a rule bars or whose window is over, and which it is.
+    fn lowest_barred(&self) -> Option<(u8, Cause)> {
         let standing = self.state.standing(&self.sheet);
-        members(self.state.held)
-            .find(|&event| self.rules_that(|rule| rule.bars(event, standing)) != 0)
+        let late = self.sheet.late(self.state.minute);
+        members(self.state.held).find_map(|event| {
+            if has(late, event) {
+                return Some((event, Cause::Late));
+            }
+            let barred = self.rules_that(|rule| rule.bars(event, standing)) != 0;
+            barred.then_some((event, Cause::Barred))
+        })
     }
 
     /// Does an order and writes its events as it says that they were. The event that

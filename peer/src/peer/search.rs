@@ -32,6 +32,9 @@
 //! An open trigger that nothing can stop is open or done all through a search.
 //! Either way its rule says the same of the other trigger (S-6), so it is left
 //! out of what has to be done for the rule to ask for its goal.
+//!
+//! The minute stands still during a search. So an event outside its window is in no
+//! order at all (S-7), held or open.
 
 use super::rules::Rule;
 use super::scheduler::State;
@@ -57,7 +60,10 @@ struct Terms {
 
 impl Terms {
     fn new(sheet: &Sheet, state: &State) -> Terms {
-        let mut terms = Terms::default();
+        let mut terms = Terms {
+            never: sheet.early(state.minute) | sheet.late(state.minute),
+            ..Terms::default()
+        };
         let (failed, open) = (state.failed(), state.open(sheet));
         for (number, rule) in sheet.rules.iter().enumerate() {
             if !has(state.broken, number as u8) {

@@ -2,6 +2,7 @@
 
 use super::rules::Rule;
 use super::set::{has, one, Set};
+use std::collections::BTreeMap;
 
 pub const MOST_EVENTS: usize = 16;
 pub const MOST_RULES: usize = 16;
@@ -11,8 +12,9 @@ const FORCIBLE: u8 = 1;
 const REJECTABLE: u8 = 2;
 const DELAYABLE: u8 = 4;
 
-/// Body lengths of kinds 0 to 6; kind 0 does not exist.
-const BODY: [Option<usize>; 7] = [None, Some(2), Some(2), Some(2), Some(3), Some(0), Some(1)];
+/// Body lengths of kinds 1 to 7; kind 0 does not exist.
+const BODY: [usize; 7] = [2, 2, 2, 3, 0, 1, 9];
+pub(super) const WINDOW: u8 = 7;
 pub(super) const END: u8 = 5;
 /// st, pr, cm, ab.
 const FOUR: [u8; 4] = [7, 0, 6, 1];
@@ -24,6 +26,13 @@ pub struct Refused {
     pub offset: usize,
 }
 
+/// When an event may be done or forced: from one minute on, and before another.
+#[derive(Clone, Copy, Debug, PartialEq, Eq)]
+pub struct Window {
+    pub from: u32,
+    pub until: u32,
+}
+
 #[derive(Clone, Debug, Default, PartialEq, Eq)]
 pub struct Sheet {
     /// The step of each event.
@@ -32,6 +41,8 @@ pub struct Sheet {
     pub rejectable: Set,
     pub delayable: Set,
     pub rules: Vec<Rule>,
+    /// By event; events without one may be done at any minute.
+    pub windows: BTreeMap<u8, Window>,
 }
 
 impl Sheet {
@@ -82,10 +93,26 @@ impl Sheet {
         found
     }
 
+    /// The events that may not be done yet at this minute.
+    pub fn early(&self, minute: u32) -> Set {
+        self.windowed(|window| minute < window.from)
+    }
+
+    /// Those that may never be done again from this minute on.
+    pub fn late(&self, minute: u32) -> Set {
+        self.windowed(|window| minute >= window.until)
+    }
+
+    fn windowed(&self, fits: impl Fn(&Window) -> bool) -> Set {
+        let fitting = self.windows.iter().filter(|(_, window)| fits(window));
+        fitting.fold(0, |set, (event, _)| set | one(*event))
+    }
+
     fn add(&mut self, kind: u8, body: &[u8]) -> Result<(), u8> {
         match kind {
             1 => self.declare(body[0], &body[1..]),
             6 => self.declare(body[0], &FOUR),
+            WINDOW => self.add_window(body),
             _ => self.add_rule(kind, body),
         }
     }
@@ -143,6 +170,20 @@ impl Sheet {
         Ok(())
     }
 
+    fn add_window(&mut self, body: &[u8]) -> Result<(), u8> {
+        let event = body[0];
+        let [from, until] = [1, 5].map(|place| minute(&body[place..]));
+        // A set can be asked of declared events alone.
+        let declared = usize::from(event) < self.events();
+        if !declared || !has(self.delayable, event) || until <= from {
+            return Err(15);
+        }
+        match self.windows.insert(event, Window { from, until }) {
+            None => Ok(()),
+            Some(_) => Err(15),
+        }
+    }
+
     /// The triggers that nothing can stop, where the goal can't be forced.
     fn unstoppable(&self, triggers: Set, goal: u8) -> Set {
         if has(self.forcible, goal) {
@@ -180,7 +221,13 @@ pub fn records(sheet: &[u8]) -> Vec<&[u8]> {
 /// length.
 fn split_record(rest: &[u8]) -> Result<(u8, &[u8]), u8> {
     let (&kind, rest) = rest.split_first().ok_or(1)?;
-    let length = BODY.get(usize::from(kind)).copied().flatten().ok_or(2)?;
-    let body = rest.get(..length).ok_or(1)?;
+    let length = BODY.get(usize::from(kind).wrapping_sub(1)).ok_or(2)?;
+    let body = rest.get(..*length).ok_or(1)?;
     Ok((kind, body))
+}
+
+/// The minute at the front of these bytes, lowest byte first.
+fn minute(bytes: &[u8]) -> u32 {
+    let digits = bytes[..4].iter().rev();
+    digits.fold(0, |sum, byte| sum << 8 | u32::from(*byte))
 }

@@ -4,11 +4,13 @@
 use super::rules::Rule;
 use super::scheduler::Scheduler;
 use super::set::{lowest, one};
-use super::sheet::{END, MOST_EVENTS, MOST_RULES};
+use super::sheet::{END, MOST_EVENTS, MOST_RULES, WINDOW};
 use std::io::Write;
 
-/// As long as a sheet can be written: every rule a conditional.
-pub const LONGEST: usize = MOST_EVENTS * 3 + MOST_RULES * 4 + 1;
+/// As long as a sheet can be written: every rule a conditional, every event with a window.
+pub const LONGEST: usize = MOST_EVENTS * (3 + WINDOW_LENGTH) + MOST_RULES * 4 + 1;
+/// Kind, event and two minutes.
+const WINDOW_LENGTH: usize = 10;
 
 /// How long the sheet is, without writing it.
 pub fn length(scheduler: &Scheduler) -> usize {
@@ -18,11 +20,12 @@ pub fn length(scheduler: &Scheduler) -> usize {
         _ => 3,
     };
     let rules: usize = sheet.rules.iter().map(of_rule).sum();
-    sheet.events() * 3 + rules + 1
+    sheet.events() * 3 + rules + sheet.windows.len() * WINDOW_LENGTH + 1
 }
 
 /// Writes the sheet at the front of a lent buffer, first the events one by one, then the
-/// rules. A buffer that it is too long for gives 14, before anything is written.
+/// rules, then the windows by event. A buffer that it is too long for gives 14, before
+/// anything is written.
 pub fn write(scheduler: &Scheduler, out: &mut [u8]) -> Result<(), u8> {
     let mut rest = out.get_mut(..length(scheduler)).ok_or(14)?;
     put(&mut rest, scheduler).expect("room for all records");
@@ -37,6 +40,11 @@ fn put(out: &mut impl Write, scheduler: &Scheduler) -> std::io::Result<()> {
     }
     for rule in &sheet.rules {
         put_rule(out, rule)?;
+    }
+    for (event, window) in &sheet.windows {
+        out.write_all(&[WINDOW, *event])?;
+        out.write_all(&window.from.to_le_bytes())?;
+        out.write_all(&window.until.to_le_bytes())?;
     }
     out.write_all(&[END])
 }

@@ -1,11 +1,11 @@
 //! Sheets with a fault.
 
-use super::sheets::{add_rule, any_rule, Draft};
+use super::sheets::{add_rule, any_rule, window_record, Draft};
 use super::{random_bytes, Random};
 
 /// The bytes of the draft with one fault, now and then with two.
 pub fn damage(random: &mut Random, mut draft: Draft) -> Vec<u8> {
-    match random.below(12) {
+    match random.below(13) {
         0 => return random_bytes(random),
         1 => return cut(random, draft.bytes()),
         2 => return flip(random, draft.bytes()),
@@ -22,6 +22,7 @@ pub fn damage(random: &mut Random, mut draft: Draft) -> Vec<u8> {
         8 => bad_attributes(random, &mut draft),
         9 => bad_name(random, &mut draft),
         10 => not_enforceable(random, &mut draft),
+        11 => bad_window(random, &mut draft),
         _ => return draft.records.concat(),
     }
     let bytes = draft.bytes();
@@ -50,7 +51,7 @@ fn flip(random: &mut Random, mut bytes: Vec<u8>) -> Vec<u8> {
 
 fn bad_kind(random: &mut Random, draft: &mut Draft) {
     let place = random.below(draft.records.len() + 1);
-    let kind = random.pick(&[0, 7, 8, 16, 254, 255]);
+    let kind = random.pick(&[0, 8, 9, 16, 254, 255]);
     draft.records.insert(place, vec![kind]);
 }
 
@@ -135,5 +136,17 @@ fn not_enforceable(random: &mut Random, draft: &mut Draft) {
             Some(rule) if !draft.enforceable(&rule) => return draft.add_rule(rule),
             _ => {}
         }
+    }
+}
+
+/// A window on any event, declared or not, or one that never opens, or a second one.
+fn bad_window(random: &mut Random, draft: &mut Draft) {
+    let place = random.below(draft.records.len() + 1);
+    let most = random.between(0, draft.events()).min(255);
+    let [from, until] = [random.below(3), random.below(3)].map(|minute| minute as u32);
+    let record = window_record(random.below(most + 1) as u8, from, until);
+    draft.records.insert(place, record.clone());
+    if random.percent(30) {
+        draft.records.push(record);
     }
 }

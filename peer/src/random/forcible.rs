@@ -48,7 +48,7 @@ pub fn forcible_sheet(random: &mut Random) -> Made {
 
 /// Three events of three steps: the first can't be forced, and the second waits for it and
 /// needs the third. A closing of the first step forces the third.
-fn add_waiting(random: &mut Random, draft: &mut Draft) {
+pub(super) fn add_waiting(random: &mut Random, draft: &mut Draft) {
     let mut steps: Vec<u8> = (0..8).collect();
     random.shuffle(&mut steps);
     for (step, sums) in steps.into_iter().zip([&[0, 2, 6][..], &[6, 7], &[1, 3, 7]]) {

@@ -31,7 +31,8 @@ pub fn calls(random: &mut Random, made: &Made) -> Vec<u8> {
     list
 }
 
-/// The readable calls of a list for a sheet, with some of any number among them.
+/// The readable calls of a list for a sheet, with some of any number among them and moves
+/// of the minute now and then.
 pub fn single_calls(random: &mut Random, made: &Made) -> Vec<Call> {
     let list = calls(random, made);
     let mut rest = list.as_slice();
@@ -39,6 +40,9 @@ pub fn single_calls(random: &mut Random, made: &Made) -> Vec<Call> {
     while let Some((call, after)) = split_call(rest) {
         if random.percent(8) {
             single.push(any_call(random));
+        }
+        if random.percent(4) {
+            single.push(Call::Advance(any_minute(random)));
         }
         single.push(call);
         rest = after;
@@ -52,6 +56,15 @@ pub fn any_call(random: &mut Random) -> Call {
         0 | 1 => Call::Submit(random.byte()),
         2 | 3 => Call::CloseStep(random.byte()),
         _ => Call::Finish,
+    }
+}
+
+/// Most often a small one, so that many are below the one before.
+pub fn any_minute(random: &mut Random) -> u32 {
+    match random.below(10) {
+        0..=7 => random.below(6) as u32,
+        8 => random.word() as u32 >> random.below(32),
+        _ => random.pick(&[0, 255, 256, 65_535, 65_536, 1 << 24, u32::MAX - 1, u32::MAX]),
     }
 }
 

@@ -8,14 +8,18 @@ mod lists;
 mod shapes;
 mod sheets;
 mod waiting;
+mod windows;
 
 pub use batches::{batch, batch_length, replies};
 pub use forcible::forcible_sheet;
 pub use forms::{longest_sheet, other_form};
-pub use lists::{any_call, calls, hostile_list, mixed_list, single_calls};
+pub use lists::{any_call, any_minute, calls, hostile_list, mixed_list, single_calls};
 pub use shapes::hostile_sheet;
-pub use sheets::{admitted_sheet, sheet, Made};
+pub use sheets::{admitted_sheet, sheet, window_record, Made};
 pub use waiting::{waiting_calls, waiting_sheet, Three, Waiting};
+pub use windows::{
+    faulty_sheet, windowed_calls, windowed_sheet, Fault, Faulty, Timed, Windowed, FAULTS,
+};
 
 /// Splitmix64.
 pub struct Random(u64);

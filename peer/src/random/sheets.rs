@@ -50,6 +50,30 @@ impl Draft {
         self.steps.extend([step; 4]);
     }
 
+    /// The delayable events, lowest first.
+    pub fn delayable(&self) -> impl Iterator<Item = u8> + '_ {
+        let all = 0..self.events() as u8;
+        all.filter(|event| self.is(*event, 4))
+    }
+
+    /// How many events the records above a place declare.
+    pub fn events_above(&self, place: usize) -> usize {
+        let declares = |record: &Vec<u8>| match record[0] {
+            1 => 1,
+            6 => 4,
+            _ => 0,
+        };
+        self.records[..place].iter().map(declares).sum()
+    }
+
+    /// How many of the records it takes to declare an event.
+    pub fn declared_by(&self, event: u8) -> usize {
+        let declares = |place: &usize| self.events_above(*place) > usize::from(event);
+        (0..self.records.len())
+            .find(declares)
+            .unwrap_or(self.records.len())
+    }
+
     pub fn add_rule(&mut self, rule: Vec<u8>) {
         self.records.push(rule);
         self.rules += 1;
@@ -76,6 +100,12 @@ impl Draft {
             _ => false,
         }
     }
+}
+
+/// The record of a window.
+pub fn window_record(event: u8, from: u32, until: u32) -> Vec<u8> {
+    let minutes = [from, until].map(u32::to_le_bytes).concat();
+    [&[7, event][..], &minutes].concat()
 }
 
 /// One sheet with the lists' view of it: the number of its events and its

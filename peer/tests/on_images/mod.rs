@@ -28,6 +28,7 @@ pub fn plain_of(sheet: &[u8], image: &Image) -> Plain {
     plain.history = lines
         .map(|line| (image[LINE_EVENT + line], fate(image[LINE_FATE + line])))
         .collect();
+    plain.minute = minute_at(image, MINUTE);
     plain
 }
 
@@ -42,6 +43,7 @@ pub fn put(plain: &Plain, image: &mut Image) {
     for (step, mark) in plain.closed.iter().enumerate() {
         image[CLOSED + step] = u8::from(*mark);
     }
+    put_minute(image, MINUTE, plain.minute);
     image[LINES] = plain.history.len() as u8;
     for (line, (event, fate)) in plain.history.iter().enumerate() {
         image[LINE_EVENT + line] = *event;
@@ -54,5 +56,6 @@ pub fn make(plain: &mut Plain, call: Call) {
         Call::Submit(event) => plain.submit(event),
         Call::CloseStep(step) => plain.close_step(step),
         Call::Finish => plain.finish(),
+        Call::Advance(minute) => plain.advance(minute),
     }
 }

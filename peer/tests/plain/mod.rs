@@ -1,7 +1,7 @@
-//! The words of document 01, of S-5 and of S-6 taken one by one, with no regard to
-//! speed: fates in an array, and a search that tries every order in turn. The peer's
-//! own search is checked against it, and the library's calls on states that a caller
-//! brings. S-6 can be left out of it, or read wrongly, to see what that changes.
+//! The words of document 01 and of S-5 to S-7 taken one by one, with no regard to speed:
+//! fates in an array, and a search that tries every order in turn. The peer's own search
+//! is checked against it, and the library's calls on states that a caller brings. S-6 and
+//! S-7 can be left out of it, or read wrongly, to see what that changes.
 
 /// In the sequence of the C header's numbers.
 #[derive(Clone, Copy, PartialEq, Eq, Debug)]
@@ -45,6 +45,41 @@ pub enum Beside {
     NotForB,
 }
 
+/// How windows and moves of the minute are read. All but the first are wrong.
+#[derive(Clone, Copy, PartialEq, Eq, Debug, Default)]
+pub enum Timing {
+    #[default]
+    AsAsked,
+    /// Windows say nothing.
+    Nothing,
+    /// The minute `until` is still inside, and `from` not yet.
+    UntilToo,
+    AfterFrom,
+    /// An open event may be forced at any minute, before its window, and after it.
+    ForcedAnyTime,
+    ForcedEarly,
+    ForcedLate,
+    /// An event past its window waits on, as one before it does.
+    LateWaits,
+    /// An event before its window is refused.
+    EarlyBarred,
+    /// A move of the minute does not settle, or is turned down at the same minute, or is
+    /// taken backward.
+    NoSettling,
+    NotTheSame,
+    BackwardToo,
+    /// A move settles at each minute on its way.
+    EachMinute,
+    /// An open event past its window counts as refused for the rules.
+    LateIsGone,
+    /// An open event past its window counts as settled for what waits for it.
+    LateIsSettled,
+    /// An event counts as forcible for S-6 only inside its window.
+    ForcibleInTime,
+    /// Only the event that an order is for has to be inside its window.
+    OneOfOrder,
+}
+
 #[derive(Clone, Default)]
 pub struct Plain {
     attributes: Vec<u8>,
@@ -59,6 +94,10 @@ pub struct Plain {
     /// Whether what is done by force is written as done, as it was before S-5.
     pub without_mark: bool,
     pub beside: Beside,
+    /// Of each event, from and until.
+    windows: Vec<Option<[u32; 2]>>,
+    pub minute: u32,
+    pub timing: Timing,
 }
 
 impl Plain {
@@ -67,11 +106,12 @@ impl Plain {
         let mut plain = Plain::default();
         let mut rest = sheet;
         while rest[0] != 5 {
-            let length = [0, 3, 3, 3, 4, 1, 2][usize::from(rest[0])];
+            let length = [0, 3, 3, 3, 4, 1, 2, 10][usize::from(rest[0])];
             let (record, after) = rest.split_at(length);
             match record[0] {
                 1 => plain.declare(record[1], &record[2..]),
                 6 => plain.declare(record[1], &[7, 0, 6, 1]),
+                7 => plain.add_window(record),
                 _ => plain.rules.push(record.to_vec()),
             }
             rest = after;
@@ -91,6 +131,49 @@ impl Plain {
             self.attributes.push(*sum);
             self.steps.push(step);
             self.fates.push(Open);
+            self.windows.push(None);
+        }
+    }
+
+    fn add_window(&mut self, record: &[u8]) {
+        let digit = |place: usize| u32::from(record[place]) << (8 * ((place - 2) % 4));
+        let [from, until] = [2, 6].map(|first| (first..first + 4).map(digit).sum());
+        self.windows[usize::from(record[1])] = Some([from, until]);
+    }
+
+    /// Whether the event's window is still to come, and whether it is over.
+    fn outside(&self, event: u8) -> (bool, bool) {
+        let Some([from, until]) = self.windows[usize::from(event)] else {
+            return (false, false);
+        };
+        match self.timing {
+            Timing::Nothing => (false, false),
+            Timing::UntilToo => (self.minute < from, self.minute > until),
+            Timing::AfterFrom => (self.minute <= from, self.minute >= until),
+            _ => (self.minute < from, self.minute >= until),
+        }
+    }
+
+    /// Whether the event may be done or forced at this minute, in an order for another.
+    fn in_time(&self, event: u8, wanted: u8) -> bool {
+        let (early, late) = self.outside(event);
+        let open = self.fate(event) == Open;
+        match self.timing {
+            Timing::ForcedAnyTime if open => true,
+            Timing::ForcedEarly if open => !late,
+            Timing::ForcedLate if open => !early,
+            Timing::OneOfOrder if event != wanted => true,
+            _ => !early && !late,
+        }
+    }
+
+    /// Whether the minute alone bars the event for good.
+    fn is_over(&self, event: u8) -> bool {
+        let (early, late) = self.outside(event);
+        match self.timing {
+            Timing::LateWaits => false,
+            Timing::EarlyBarred => early || late,
+            _ => late,
         }
     }
 
@@ -103,11 +186,16 @@ impl Plain {
     }
 
     fn unsettled(&self, event: u8) -> bool {
-        matches!(self.fate(event), Open | Held)
+        let lost = self.timing == Timing::LateIsSettled
+            && self.fate(event) == Open
+            && self.outside(event).1;
+        !lost && matches!(self.fate(event), Open | Held)
     }
 
     fn gone(&self, event: u8) -> bool {
-        matches!(self.fate(event), Refused | Lapsed)
+        let lost =
+            self.timing == Timing::LateIsGone && self.fate(event) == Open && self.outside(event).1;
+        lost || matches!(self.fate(event), Refused | Lapsed)
     }
 
     fn done(&self, event: u8) -> bool {
@@ -148,8 +236,14 @@ impl Plain {
         };
         (self.fate(other) == Open || lapsed)
             && (unstoppable || self.beside == Beside::RejectableToo)
-            && (!self.is(c, 1) || self.beside == Beside::ForcibleToo)
+            && (!self.can_be_forced(c) || self.beside == Beside::ForcibleToo)
             && ![Beside::Nothing, wrong].contains(&self.beside)
+    }
+
+    /// By the attribute alone: no window counts here.
+    fn can_be_forced(&self, c: u8) -> bool {
+        let shut = self.timing == Timing::ForcibleInTime && self.outside(c) != (false, false);
+        self.is(c, 1) && !shut
     }
 
     fn owes(&self, rule: usize) -> bool {
@@ -188,12 +282,12 @@ impl Plain {
         }
     }
 
-    /// Whether the event may stand at the next place of an order.
-    fn may_be_next(&self, event: u8) -> bool {
+    /// Whether the event may stand at the next place of an order for `wanted`.
+    fn may_be_next(&self, event: u8, wanted: u8) -> bool {
         let fate = self.fate(event);
         let usable = fate == Held || (fate == Open && self.is(event, 1));
         let forbidden = |rule| self.forbids(rule, event).0 || self.forbids(rule, event).1;
-        usable && !(0..self.rules.len()).any(forbidden)
+        usable && self.in_time(event, wanted) && !(0..self.rules.len()).any(forbidden)
     }
 
     /// The first order of exactly `length` events that contains `wanted` (or
@@ -204,7 +298,7 @@ impl Plain {
             return (self.done(wanted) && !owing).then(Vec::new);
         }
         for event in 0..self.fates.len() as u8 {
-            if !self.may_be_next(event) {
+            if !self.may_be_next(event, wanted) {
                 continue;
             }
             let before = std::mem::replace(&mut self.fates[usize::from(event)], Done);
@@ -229,7 +323,7 @@ impl Plain {
         }
         let mut found = Vec::new();
         for event in 0..self.fates.len() as u8 {
-            if !self.may_be_next(event) {
+            if !self.may_be_next(event, wanted) {
                 continue;
             }
             let before = std::mem::replace(&mut self.fates[usize::from(event)], Done);
@@ -262,7 +356,9 @@ impl Plain {
     fn settle(&mut self) {
         loop {
             let rules = 0..self.rules.len();
-            let barred = |event: &u8| rules.clone().any(|rule| self.forbids(rule, *event).0);
+            let barred = |event: &u8| {
+                self.is_over(*event) || rules.clone().any(|rule| self.forbids(rule, *event).0)
+            };
             if let Some(event) = self.held().into_iter().find(barred) {
                 self.enter(event, Refused);
                 continue;
@@ -333,6 +429,29 @@ impl Plain {
         self.settle();
         while let Some(event) = self.held().first() {
             self.enter(*event, Refused);
+            self.settle();
+        }
+    }
+
+    /// Moves the minute and settles at the new one, and at no other.
+    pub fn advance(&mut self, minute: u32) {
+        let backward = match self.timing {
+            Timing::NotTheSame => minute <= self.minute,
+            Timing::BackwardToo => false,
+            _ => minute < self.minute,
+        };
+        if backward {
+            self.refused_calls += 1;
+            return;
+        }
+        if self.timing == Timing::EachMinute && minute - self.minute < 100 {
+            for between in self.minute..minute {
+                self.minute = between;
+                self.settle();
+            }
+        }
+        self.minute = minute;
+        if self.timing != Timing::NoSettling {
             self.settle();
         }
     }

@@ -86,13 +86,15 @@ fn lent(random: &mut Random, made: &Made) -> Vec<Entry> {
     filled.collect()
 }
 
-/// The calls as entries that have no answer yet. A winding up is no entry, and is turned down.
+/// The calls as entries that have no answer yet. A winding up and a move of the minute are
+/// no entries, and are turned down.
 pub fn unanswered(calls: &[Call]) -> Vec<Entry> {
     let entry = |call: &Call| {
         let (kind, number) = match *call {
             Call::Submit(event) => (16, event),
             Call::CloseStep(step) => (17, step),
             Call::Finish => (18, 0),
+            Call::Advance(minute) => (19, minute as u8),
         };
         Entry {
             kind,

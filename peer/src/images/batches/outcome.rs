@@ -95,7 +95,7 @@ fn put_answer(entry: &mut Entry, answer: Option<Answer>) {
     (entry.refused, entry.fate) = match answer {
         None => return,
         Some(Answer::Fate(fate)) => (0, number(fate)),
-        Some(Answer::Closed | Answer::Finished) => (0, 0),
+        Some(Answer::Closed | Answer::Finished | Answer::Advanced) => (0, 0),
         Some(Answer::TurnedDown(reason)) => (reason as u8, 0),
         Some(Answer::Unreadable) => (OTHER_KIND, 0),
     };

@@ -20,7 +20,7 @@ pub struct Tally {
     pub origins: [usize; 2],
     pub forcing_cases: usize,
     /// Calls by number.
-    pub numbers: [usize; 12],
+    pub numbers: [usize; 17],
     /// Hand-ins that were taken; the place is the fate's number, never 0.
     pub answered: [usize; 6],
     /// Those answered with forced: of events that the list forced, and of those that were
@@ -31,7 +31,7 @@ pub struct Tally {
     pub lines: [usize; 6],
     /// Calls that force: hand-ins, closings, and windings up, of which none does, as no
     /// event is open then. Those of them that force several.
-    pub forcing: [usize; 3],
+    pub forcing: [usize; 4],
     pub several: usize,
     /// Hand-ins that force an event ahead of the one handed in, and behind it.
     pub ahead: usize,
@@ -97,6 +97,7 @@ impl Tally {
             Call::Submit(own) => (0, events.iter().position(|event| *event == own)),
             Call::CloseStep(_) => (1, None),
             Call::Finish => (2, None),
+            Call::Advance(_) => (3, None),
         };
         self.forcing[place] += 1;
         self.several += usize::from(forced(fates) > 1);
@@ -189,7 +190,8 @@ impl Tally {
         ];
         let mut counts: Vec<(String, usize)> = Vec::new();
         counts.extend(named.map(|(name, met)| (name.to_string(), met)));
-        counts.extend(numbered("calls turned down by", &self.numbers, 9));
+        counts.extend(numbered("calls turned down by", &self.numbers[..12], 9));
+        counts.extend(numbered("calls turned down by", &self.numbers, 16));
         counts.extend(numbered("hand-ins answered with fate", &self.answered, 1));
         counts.extend(numbered("lines of fate", &self.lines, 2));
         counts.extend(numbered("forced orders of length", &self.forced_orders, 2));

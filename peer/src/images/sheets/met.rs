@@ -11,6 +11,7 @@ use crate::peer::Scheduler;
 const EVENT: u8 = 1;
 const FOUR_EVENTS: u8 = 6;
 const CONDITIONAL: usize = 4;
+const WINDOW: u8 = 7;
 
 /// How a buffer's length is to the sheet's.
 const BUFFERS: [&str; 8] = [
@@ -53,6 +54,8 @@ pub struct Tally {
     pub steps: [usize; 8],
     pub attributes: [usize; 8],
     pub rules: [usize; 5],
+    /// Windows written.
+    pub windows: usize,
     pub higher_first: usize,
     /// Sheets written of states with an event of a fate, by its number; with a closed step,
     /// with a broken rule, with bytes past the counts; with forced events.
@@ -106,10 +109,11 @@ impl Tally {
 
     fn add_written(&mut self, sheet: &[u8]) {
         let records = records(sheet);
-        let events = records.iter().filter(|record| record[0] == EVENT).count();
+        let count = |kind| records.iter().filter(|record| record[0] == kind).count();
+        let (events, windows) = (count(EVENT), count(WINDOW));
         self.empty += usize::from(records.is_empty());
         self.all_events += usize::from(events == MOST_EVENTS);
-        self.all_rules += usize::from(records.len() - events == MOST_RULES);
+        self.all_rules += usize::from(records.len() - events - windows == MOST_RULES);
         self.longest += usize::from(sheet.len() == LONGEST);
         for record in records {
             self.add_record(record);
@@ -121,6 +125,8 @@ impl Tally {
         if record[0] == EVENT {
             self.steps[one] += 1;
             self.attributes[other] += 1;
+        } else if record[0] == WINDOW {
+            self.windows += 1;
         } else {
             self.rules[kind] += 1;
             self.higher_first += usize::from(kind == CONDITIONAL && one > other);
@@ -200,6 +206,7 @@ impl Tally {
             ("sheets of 16 rules", self.all_rules),
             ("sheets as long as any", self.longest),
             ("conditionals with the higher first", self.higher_first),
+            ("windows", self.windows),
             ("states with a closed step", self.closed),
             ("states with a broken rule", self.broken),
             ("states with bytes past the counts", self.leftovers),
@@ -229,6 +236,7 @@ impl Form {
             match record[0] {
                 EVENT => form.of_four.push(false),
                 FOUR_EVENTS => form.of_four.extend([true; 4]),
+                WINDOW => {}
                 _ => form.above.push(form.of_four.len()),
             }
         }

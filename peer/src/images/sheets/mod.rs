@@ -105,7 +105,7 @@ fn longer(random: &mut Random, usual: usize) -> usize {
     match random.below(40) {
         0 => 65_536,
         1..=10 => usual + random.between(4, 40),
-        _ => random.pick(&[LONGEST + 1, 128, 255, 256, 257, 300, 384, 1_000]),
+        _ => random.pick(&[LONGEST + 1, 255, 256, 257, 300, 384, 512, 1_000]),
     }
 }
 

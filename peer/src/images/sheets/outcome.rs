@@ -169,7 +169,7 @@ fn written(library: Write, image: &Image) -> Result<Vec<u8>, String> {
     }
 }
 
-/// A first state with the events and the rules of another state.
+/// A first state with the events, the rules and the windows of another state.
 fn untouched(image: &Image) -> Image {
     let mut blank = first(EMPTY_SHEET);
     let mut copy = |row: usize, count: u8| {
@@ -183,6 +183,9 @@ fn untouched(image: &Image) -> Image {
     }
     for row in [RULE_KIND, RULE_A, RULE_B, RULE_C] {
         copy(row, image[RULES]);
+    }
+    for row in [FROM, UNTIL] {
+        copy(row, 4 * image[EVENTS]);
     }
     blank
 }

@@ -121,7 +121,7 @@ pub fn compare(seed: u64, count: usize, library: &Functions) -> Result<Tally, St
 }
 
 /// The functions that damage elsewhere is not tried on.
-fn others(image: &Image, calls: &[Call]) -> Result<(), String> {
+pub fn others(image: &Image, calls: &[Call]) -> Result<(), String> {
     let peer = scheduler(image);
     for event in 0..image[EVENTS] {
         previews::agree(previews::LIBRARY, image, peer.as_ref(), event, [FILL; 4])?;
@@ -134,7 +134,7 @@ fn others(image: &Image, calls: &[Call]) -> Result<(), String> {
 }
 
 /// The calls come to the same in the peer, where the bytes are a state.
-fn same_calls(library: &Functions, image: &Image, calls: &[Call]) -> Result<(), String> {
+pub fn same_calls(library: &Functions, image: &Image, calls: &[Call]) -> Result<(), String> {
     let Some(mut peer) = scheduler(image) else {
         return Ok(());
     };

@@ -192,6 +192,7 @@ impl Case {
                 Call::Submit(event) => bytes.extend([16, event]),
                 Call::CloseStep(step) => bytes.extend([17, step]),
                 Call::Finish => bytes.push(18),
+                Call::Advance(_) => unreachable!("no list has this call"),
             }
         }
         bytes.extend(self.cut.then_some(16));
