@@ -23,7 +23,7 @@ pub enum Fate {
     /// for with it. A conditional also asks ahead. Where one of its triggers can be neither
     /// refused nor held, and its third event cannot be forced, the other trigger waits for
     /// the third event while that one is open, and is refused once the third is refused or
-    /// has lapsed.
+    /// has lapsed. Or it waits for its [`Window`](crate::Window).
     ///
     /// ```
     /// use sinewhopa::{Fate, State};

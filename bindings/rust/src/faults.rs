@@ -59,6 +59,12 @@ pub enum SheetFault {
         /// The offset of the first of them.
         at: usize,
     },
+    /// 15: a window of an event that no record before it declares, that is not delayable or
+    /// that has one already; or a window with no minute in it.
+    BadWindow {
+        /// The offset of the window's record.
+        at: usize,
+    },
     /// A number that this crate has no name for yet.
     Other {
         /// The number.
@@ -87,6 +93,7 @@ impl SheetFault {
             6 => SheetFault::BadNames { at },
             7 => SheetFault::Unenforceable { at },
             8 => SheetFault::Extra { at },
+            15 => SheetFault::BadWindow { at },
             _ => SheetFault::Other { number, at },
         }
     }
@@ -111,6 +118,7 @@ impl SheetFault {
             SheetFault::BadNames { at } => (6, at),
             SheetFault::Unenforceable { at } => (7, at),
             SheetFault::Extra { at } => (8, at),
+            SheetFault::BadWindow { at } => (15, at),
             SheetFault::Other { number, at } => (number, at),
         }
     }
@@ -131,6 +139,9 @@ impl fmt::Display for SheetFault {
             }
             SheetFault::Unenforceable { .. } => "a rule that cannot be enforced",
             SheetFault::Extra { .. } => "bytes after the end record",
+            SheetFault::BadWindow { .. } => {
+                "a window that is empty, or that its event may not have"
+            }
             SheetFault::Other { number, .. } => return other(out, *number, self.offset()),
         };
         write!(out, "{why}, at offset {} of the sheet", self.offset())
@@ -180,6 +191,8 @@ pub enum CallFault {
     TooLong,
     /// 14: a lent buffer that is too short. It is as it was before.
     NoRoom,
+    /// 16: a minute below the current one.
+    Backward,
     /// A number that this crate has no name for yet.
     Other(u8),
 }
@@ -202,6 +215,7 @@ impl CallFault {
             12 => CallFault::Incoherent,
             13 => CallFault::TooLong,
             14 => CallFault::NoRoom,
+            16 => CallFault::Backward,
             _ => CallFault::Other(number),
         }
     }
@@ -216,6 +230,7 @@ impl CallFault {
             CallFault::Incoherent => 12,
             CallFault::TooLong => 13,
             CallFault::NoRoom => 14,
+            CallFault::Backward => 16,
             CallFault::Other(number) => number,
         }
     }
@@ -233,6 +248,7 @@ impl fmt::Display for CallFault {
             }
             CallFault::TooLong => out.write_str("more entries than a batch may have"),
             CallFault::NoRoom => out.write_str("a lent buffer that is too short"),
+            CallFault::Backward => out.write_str("a minute below the current one"),
             CallFault::Other(number) => write!(out, "turned down by number {number}"),
         }
     }

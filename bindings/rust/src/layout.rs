@@ -13,6 +13,10 @@ pub const BROKEN: usize = 116;
 pub const CLOSED: usize = 132;
 pub const LINE_EVENT: usize = 140;
 pub const LINE_FATE: usize = 156;
+/// The minute, and rows with a number of four bytes for each event.
+pub const MINUTE: usize = 172;
+pub const FROM: usize = 176;
+pub const UNTIL: usize = 240;
 
 pub const STEPS: u8 = 8;
 
@@ -21,4 +25,10 @@ pub fn row(bytes: &[u8; STATE_LEN], start: usize, count: u8) -> &[u8] {
     bytes
         .get(start..start + usize::from(count))
         .unwrap_or_default()
+}
+
+/// The four-byte number at a place, the lowest byte first.
+pub fn number(bytes: &[u8; STATE_LEN], start: usize) -> u32 {
+    let highest_first = row(bytes, start, 4).iter().rev();
+    highest_first.fold(0, |number, byte| number << 8 | u32::from(*byte))
 }

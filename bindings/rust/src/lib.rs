@@ -1,12 +1,13 @@
 //! Sinewhopa, a proved scheduler, for hosts in Rust.
 //!
-//! A host opens a [`State`] for each of its plans, hands in events as they are
-//! reported to it, closes steps and winds up; it may store the state's 384 bytes
-//! after each call and go on from them after a restart. Replies that come together
-//! are handed in together, by [`State::submit_all`]. What an event would settle can be
-//! asked before it is handed in, by [`State::preview`]. Events that no office has reported
-//! and that the scheduler has brought about are [`Fate::Forced`]. An event may also have to
-//! wait ahead of a report that nobody can stop: [`Fate::Held`] says when. The sheet that a
+//! A host opens a [`State`] for each of its plans, hands in events as they are reported to
+//! it, closes steps and winds up; it may store the state's 384 bytes after each call and go
+//! on from them after a restart. Replies that come together are handed in together, by
+//! [`State::submit_all`]. What an event would settle can be asked before it is handed in, by
+//! [`State::preview`]. An event with a [`Window`] is done only within its minutes; the host
+//! says what minute it is, by [`State::advance`]. Events that no office has reported and
+//! that the scheduler has brought about are [`Fate::Forced`]. An event may also have to wait
+//! ahead of a report that nobody can stop: [`Fate::Held`] says when. The sheet that a
 //! colleague is to start from is written by [`State::to_sheet`]. [`run`] makes a whole list
 //! of calls on a sheet in one go. What sheets and calls are, byte by byte, and what each
 //! call does is in the repository's README.
@@ -39,12 +40,14 @@ mod preview;
 #[allow(unsafe_code)]
 pub mod raw;
 mod state;
+mod window;
 
 pub use batch::{Answer, Call};
 pub use fate::Fate;
 pub use faults::{CallFault, SheetFault};
 pub use preview::Preview;
 pub use state::State;
+pub use window::Window;
 
 /// The bytes of a state.
 pub const STATE_LEN: usize = 384;
@@ -56,7 +59,7 @@ pub const LONGEST_REPORT: usize = 320;
 pub const LONGEST_BATCH: usize = 64;
 
 /// No sheet that is written is longer.
-pub const LONGEST_SHEET: usize = 113;
+pub const LONGEST_SHEET: usize = 273;
 
 /// Runs a list of calls on a sheet and gives the report, which is what the runner
 /// prints. Any bytes may be given as either.

@@ -19,6 +19,8 @@
 //! assert_eq!(raw::close_step(&mut state, 0), 10); // it is closed already
 //! assert_eq!(raw::finish(&mut state), 0);
 //! assert_eq!(raw::check(&state), 0);
+//! assert_eq!(raw::advance(&mut state, 870), 0); // half past two
+//! assert_eq!(raw::advance(&mut state, 869), 16); // no minute comes again
 //!
 //! let (mut one, mut other) = ([0; 100], [0; 100]);
 //! let length = raw::report(&state, 3, &mut one);
@@ -73,6 +75,7 @@ extern "C" {
     fn sinewhopa_submit(state: *mut u8, event: u8) -> u8;
     fn sinewhopa_close_step(state: *mut u8, step: u8) -> u8;
     fn sinewhopa_finish(state: *mut u8) -> u8;
+    fn sinewhopa_advance(state: *mut u8, minute: u32) -> u8;
     fn sinewhopa_submit_all(state: *mut u8, entries: *mut Entry, n: usize) -> u8;
     fn sinewhopa_preview(state: *const u8, event: u8, added: *mut u8) -> u8;
     fn sinewhopa_write_sheet(
@@ -94,7 +97,7 @@ extern "C" {
 }
 
 /// Reads a sheet and writes its first state. Gives 0 and 0, or the number of the
-/// fault (1 to 8) and the offset of the record; the empty state is written then.
+/// fault (1 to 8, or 15) and the offset of the record; the empty state is written then.
 pub fn open(state: &mut [u8; STATE_LEN], sheet: &[u8]) -> (u8, usize) {
     let mut at = 0;
     // SAFETY: `state` has the bytes of a state and `sheet` its length, neither is
@@ -120,6 +123,27 @@ pub fn close_step(state: &mut [u8; STATE_LEN], step: u8) -> u8 {
 pub fn finish(state: &mut [u8; STATE_LEN]) -> u8 {
     // SAFETY: `state` has the bytes of a state and is borrowed mutably.
     unsafe { sinewhopa_finish(state.as_mut_ptr()) }
+}
+
+/// Moves the minute forward, or to where it stands, and settles. Gives 0; or 12; or else 16
+/// where the minute is below the state's. The state changes only with 0.
+///
+/// ```
+/// use sinewhopa::raw;
+///
+/// let mut state = [0; sinewhopa::STATE_LEN];
+/// assert_eq!(raw::advance(&mut state, 0), 12); // no state yet
+/// // One event, with a window from the minute 870 up to, but not including, 900.
+/// raw::open(&mut state, &[1, 0, 6, 7, 0, 102, 3, 0, 0, 132, 3, 0, 0, 5]);
+/// assert_eq!(raw::submit(&mut state, 0), 0);
+/// assert_eq!((raw::advance(&mut state, 869), state[100]), (0, 1)); // still held
+/// assert_eq!((raw::advance(&mut state, 870), state[100]), (0, 2)); // done
+/// assert_eq!(raw::advance(&mut state, 869), 16);
+/// assert_eq!(state[172..176], [102, 3, 0, 0]); // the minute is as it was
+/// ```
+pub fn advance(state: &mut [u8; STATE_LEN], minute: u32) -> u8 {
+    // SAFETY: `state` has the bytes of a state and is borrowed mutably.
+    unsafe { sinewhopa_advance(state.as_mut_ptr(), minute) }
 }
 
 /// Makes the calls of a batch in the list's order and writes its answer into each
@@ -149,11 +173,11 @@ pub fn submit_all(state: &mut [u8; STATE_LEN], entries: &mut [Entry]) -> u8 {
     unsafe { sinewhopa_submit_all(state.as_mut_ptr(), entries.as_mut_ptr(), entries.len()) }
 }
 
-/// Counts what handing in an event would settle: the lines that [`submit`] would add to
-/// the history, by fate. Gives 0 and writes how many would be done, refused, lapsed (none,
-/// of a hand-in) and forced, which are not counted as done too; all are 0 for an event
-/// that is not open any more. Or gives what [`submit`] would, 12 or 9, and `added` is left
-/// as it was. The state is only read.
+/// Counts what handing in an event would settle at the current minute: the lines that
+/// [`submit`] would add to the history, by fate. Gives 0 and writes how many would be done,
+/// refused, lapsed (none, of a hand-in) and forced, which are not counted as done too; all
+/// are 0 for an event that is not open any more. Or gives what [`submit`] would, 12 or 9,
+/// and `added` is left as it was. The state is only read.
 ///
 /// ```
 /// use sinewhopa::raw::{self, ADDED_COUNTS, ADDED_DONE};
@@ -176,10 +200,10 @@ pub fn preview(state: &[u8; STATE_LEN], event: u8, added: &mut [u8; ADDED_COUNTS
     unsafe { sinewhopa_preview(state.as_ptr(), event, added.as_mut_ptr()) }
 }
 
-/// Writes the sheet that declares the state's events and rules at the start of `out`, and
-/// gives 0 and its length. Or gives 12 and 0; or else, where the length is more than `out`
-/// has, 14 and the length. With 12 and 14 `out` is left as it was, and bytes beyond the
-/// sheet always are. The state is only read.
+/// Writes the sheet that declares the state's events, rules and windows at the start of
+/// `out`, and gives 0 and its length. Or gives 12 and 0; or else, where the length is more
+/// than `out` has, 14 and the length. With 12 and 14 `out` is left as it was, and bytes
+/// beyond the sheet always are. The state is only read.
 ///
 /// ```
 /// use sinewhopa::raw;

@@ -1,12 +1,12 @@
 //! A state that a host keeps.
 
 use crate::layout::{self, row};
-use crate::{filled, raw, Answer, Call, CallFault, Fate, Preview, SheetFault};
+use crate::{filled, raw, Answer, Call, CallFault, Fate, Preview, SheetFault, Window};
 use crate::{LONGEST_BATCH, LONGEST_SHEET, STATE_LEN};
 use std::fmt;
 
 /// The state of one plan: what its sheet declares, what has become of each event,
-/// and the history. It is 384 bytes in a layout that is fixed for ever, made by
+/// the history and the current minute. It is 384 bytes in a layout that is fixed for ever, made by
 /// [`State::open`] and changed by calls alone; it can be stored and sent as
 /// [`State::as_bytes`] and comes back by [`State::from_bytes`]. A `State` always
 /// passes number 12, whatever calls are made on it.
@@ -46,11 +46,11 @@ impl State {
         }
     }
 
-    /// Hands in an event and gives its fate: done, held or refused. Further events
-    /// may be settled with it; they have their lines at the end of the history, where
-    /// those that were open are forced. An event that is not open any more keeps its
-    /// fate, which is given again; so one that was forced before it was reported gives
-    /// [`Fate::Forced`].
+    /// Hands in an event, at the current minute, and gives its fate: done, held or refused.
+    /// Further events may be settled with it; they have their lines at the end of the
+    /// history, where those that were open are forced. An event that is not open any more
+    /// keeps its fate, which is given again; so one that was forced before it was reported
+    /// gives [`Fate::Forced`].
     ///
     /// ```
     /// use sinewhopa::{CallFault, Fate, State};
@@ -84,7 +84,7 @@ impl State {
     }
 
     /// Winds up, once every step that has an event is closed: what is still held is
-    /// refused, the lowest first.
+    /// refused, the lowest first, also what waits for its [`Window`].
     ///
     /// ```
     /// use sinewhopa::{Fate, State};
@@ -102,6 +102,33 @@ impl State {
     /// ```
     pub fn finish(&mut self) -> Result<(), CallFault> {
         taken(raw::finish(&mut self.bytes))
+    }
+
+    /// Moves the minute forward, or to where it stands, and settles: a held event whose
+    /// window has come is done, where nothing else keeps it; one whose window is over is
+    /// refused. Minutes that are jumped over do nothing. What a minute counts from is the
+    /// host's choice, as the library has no clock. A host calls this whenever its clock
+    /// moves, and before it hands in a reply.
+    ///
+    /// ```
+    /// use sinewhopa::{CallFault, Fate, State};
+    ///
+    /// // One event, with a window from half past two, up to but not including three.
+    /// let sheet = [1, 0, 6, 7, 0, 102, 3, 0, 0, 132, 3, 0, 0, 5];
+    /// let mut state = State::open(&sheet)?;
+    /// state.advance(14 * 60)?;
+    /// assert_eq!(state.submit(0)?, Fate::Held); // too early
+    /// let mut slept = state.clone();
+    /// state.advance(14 * 60 + 30)?;
+    /// assert_eq!(state.fate(0), Some(Fate::Done));
+    /// assert_eq!(state.advance(14 * 60), Err(CallFault::Backward));
+    ///
+    /// slept.advance(15 * 60)?; // from two to three in one go: too late
+    /// assert_eq!(slept.fate(0), Some(Fate::Refused));
+    /// # Ok::<(), Box<dyn std::error::Error>>(())
+    /// ```
+    pub fn advance(&mut self, minute: u32) -> Result<(), CallFault> {
+        taken(raw::advance(&mut self.bytes, minute))
     }
 
     /// Makes the calls of a batch, one after another in the list's order, and gives
@@ -135,10 +162,10 @@ impl State {
         Ok(answered.map(|(call, entry)| call.answer(entry)).collect())
     }
 
-    /// What [`State::submit`] would settle with this event: how many lines it would add
-    /// to the history, by fate. The state stays as it is. Nothing would be settled by an
-    /// event that is not open any more. Where `submit` would turn the event down, so
-    /// does this, with the same fault.
+    /// What [`State::submit`] would settle with this event: how many lines it would add to
+    /// the history, by fate, at the current minute. The state stays as it is. Nothing would
+    /// be settled by an event that is not open any more. Where `submit` would turn the event
+    /// down, so does this, with the same fault.
     ///
     /// ```
     /// use sinewhopa::{CallFault, Preview, State};
@@ -179,7 +206,8 @@ impl State {
 
     /// The events that wait, the lowest first. [`Fate::Held`] says for what; which rule it
     /// is can be read from the rules, the attributes and the fates in [`State::as_bytes`],
-    /// as the crate's `examples/waiting.rs` does.
+    /// as the crate's `examples/waiting.rs` does. Whether it is the event's own window,
+    /// [`State::window`] and [`State::minute`] say.
     ///
     /// ```
     /// use sinewhopa::State;
@@ -236,6 +264,44 @@ impl State {
     /// ```
     pub fn rule_count(&self) -> u8 {
         self.bytes[layout::RULES]
+    }
+
+    /// The current minute: 0 at first, and then the last one that [`State::advance`] has
+    /// taken.
+    ///
+    /// ```
+    /// # use sinewhopa::State;
+    /// let mut state = State::open(&[1, 0, 6, 5])?;
+    /// assert_eq!(state.minute(), 0);
+    /// state.advance(14 * 60 + 30)?;
+    /// assert_eq!(State::from_bytes(state.as_bytes())?.minute(), 870);
+    /// # Ok::<(), Box<dyn std::error::Error>>(())
+    /// ```
+    pub fn minute(&self) -> u32 {
+        layout::number(&self.bytes, layout::MINUTE)
+    }
+
+    /// The window of an event; none where the event is not declared or has none.
+    ///
+    /// ```
+    /// use sinewhopa::{State, Window};
+    ///
+    /// // Two events, and a window of event 1.
+    /// let state = State::open(&[1, 0, 6, 1, 1, 6, 7, 1, 102, 3, 0, 0, 132, 3, 0, 0, 5])?;
+    /// let (from, until) = (14 * 60 + 30, 15 * 60);
+    /// assert_eq!(state.window(1), Some(Window { from, until }));
+    /// assert_eq!((state.window(0), state.window(2)), (None, None));
+    /// # Ok::<(), sinewhopa::SheetFault>(())
+    /// ```
+    pub fn window(&self, event: u8) -> Option<Window> {
+        let at = |row| layout::number(&self.bytes, row + 4 * usize::from(event));
+        let declared = event < self.event_count();
+        let window = declared.then(|| Window {
+            from: at(layout::FROM),
+            until: at(layout::UNTIL),
+        });
+        // Where there is none, both are 0; where there is one, it ends above 0.
+        window.filter(|window| window.until > 0)
     }
 
     /// Whether the step is closed; no step above 7 is.
@@ -296,13 +362,13 @@ impl State {
     /// # Ok::<(), Box<dyn std::error::Error>>(())
     /// ```
     ///
-    /// What an earlier version of the library has stored is a state still, but for this:
-    /// versions before did not make a trigger of a conditional wait ahead of one that
-    /// cannot be stopped ([`Fate::Held`]). Where they have done or forced such a trigger,
-    /// with the other one open and the third event open or held, the bytes are turned down
-    /// now. A host opens that plan again, from its sheet, and makes its calls again. Where
-    /// the third event was refused or has lapsed since, the bytes are taken; the rule then
-    /// breaks should the other trigger be handed in.
+    /// What an earlier version of the library has stored is a state still, at minute 0 and
+    /// without windows, but for this: versions before did not make a trigger of a
+    /// conditional wait ahead of one that cannot be stopped ([`Fate::Held`]). Where they
+    /// have done or forced such a trigger, with the other one open and the third event open
+    /// or held, the bytes are turned down now. A host opens that plan again, from its sheet,
+    /// and makes its calls again. Where the third event was refused or has lapsed since, the
+    /// bytes are taken; the rule then breaks should the other trigger be handed in.
     ///
     /// ```
     /// use sinewhopa::{CallFault, Fate, State};
@@ -339,10 +405,10 @@ impl State {
         filled(|out| raw::report(&self.bytes, refused, out))
     }
 
-    /// The state written out as a sheet, to be passed on: its events, then its rules,
-    /// whatever calls have been made. [`State::open`] reads it as the first state with
-    /// the same events and rules. Sheets that declare these, numbered alike, are all
-    /// written as the same bytes.
+    /// The state written out as a sheet, to be passed on: its events, then its rules, then
+    /// its windows by event, whatever calls have been made. [`State::open`] reads it as the
+    /// first state with the same events, rules and windows, at minute 0. Sheets that declare
+    /// these, numbered alike, are all written as the same bytes.
     ///
     /// ```
     /// use sinewhopa::State;
@@ -419,6 +485,7 @@ impl fmt::Debug for State {
         let closed = (0..layout::STEPS).filter(|step| self.is_closed(*step));
         let broken = (0..self.rule_count()).filter(|rule| self.is_broken(*rule));
         out.debug_struct("State")
+            .field("minute", &self.minute())
             .field("fates", &fates.collect::<Vec<Fate>>())
             .field("closed", &closed.collect::<Vec<u8>>())
             .field("broken", &broken.collect::<Vec<u8>>())

@@ -1,9 +1,12 @@
-//! The examples of a batch, a preview, a sheet, forced events and an event that waits print
-//! what the same hosts in C print.
+//! The examples of a batch, a preview, a sheet, forced events, an event that waits and one
+//! with a window print what the same hosts in C print.
 
 #[allow(dead_code)]
 #[path = "../examples/batch.rs"]
 mod batch;
+#[allow(dead_code)]
+#[path = "../examples/chapel.rs"]
+mod chapel;
 #[allow(dead_code)]
 #[path = "../examples/forced.rs"]
 mod forced;
@@ -54,4 +57,10 @@ fn a_sheet_passed_on_is_told_as_in_c() {
 fn what_waits_is_told_as_in_c() {
     let in_c = include_str!("../../../examples/waiting/stdout");
     assert_eq!(told(|out| waiting::run(out)), in_c);
+}
+
+#[test]
+fn hours_of_a_chapel_are_told_as_in_c() {
+    let in_c = include_str!("../../../examples/chapel/stdout");
+    assert_eq!(told(|out| chapel::run(out)), in_c);
 }

@@ -20,11 +20,12 @@ fn every_number_has_a_fault_and_a_fate() {
         assert_eq!((sheet.number(), sheet.offset()), (number, 9));
         assert!(sheet.to_string().ends_with("at offset 9 of the sheet"));
         let unnamed = matches!(sheet, SheetFault::Other { .. });
-        assert_eq!(unnamed, !(1..=8).contains(&number));
+        let named = number == 15 || (1..=8).contains(&number);
+        assert_eq!(unnamed, !named);
         let call = CallFault::from_number(number);
         assert_eq!(call.number(), number);
         assert!(!call.to_string().is_empty());
-        let named = number == 2 || (9..=14).contains(&number);
+        let named = [2, 16].contains(&number) || (9..=14).contains(&number);
         assert_eq!(matches!(call, CallFault::Other(_)), !named);
         let fate = Fate::from_number(number);
         assert_eq!((fate.number(), fate.is_settled()), (number, number > 1));
@@ -49,12 +50,12 @@ fn numbers_without_a_name_are_said() {
     assert_eq!(Fate::from_number(5).to_string(), "forced");
 }
 
-/// Each of the eight faults of a sheet, with its offset.
+/// Each of the nine faults of a sheet, with its offset.
 #[test]
 fn sheets_are_turned_down() {
-    let rows: [(&[u8], SheetFault); 8] = [
+    let rows: [(&[u8], SheetFault); 9] = [
         (&[1, 0, 6], SheetFault::Cut { at: 3 }),
-        (&[7], SheetFault::BadKind { at: 0 }),
+        (&[8], SheetFault::BadKind { at: 0 }),
         (
             &[6, 0, 6, 1, 6, 2, 6, 3, 6, 4, 5],
             SheetFault::Full { at: 8 },
@@ -67,6 +68,10 @@ fn sheets_are_turned_down() {
             SheetFault::Unenforceable { at: 6 },
         ),
         (&[5, 5], SheetFault::Extra { at: 1 }),
+        (
+            &[1, 0, 2, 7, 0, 0, 0, 0, 0, 1, 0, 0, 0, 5],
+            SheetFault::BadWindow { at: 3 },
+        ),
     ];
     for (sheet, fault) in rows {
         assert_eq!(State::open(sheet), Err(fault));
@@ -82,6 +87,10 @@ fn calls_are_turned_down() {
     assert_eq!(state.close_step(2), Err(CallFault::Unknown));
     assert_eq!(state.close_step(255), Err(CallFault::Unknown));
     assert_eq!(state.finish(), Err(CallFault::NotClosed));
+    assert_eq!(state, before);
+    assert_eq!(state.advance(7), Ok(()));
+    let before = state.clone();
+    assert_eq!(state.advance(6), Err(CallFault::Backward));
     assert_eq!(state, before);
     assert_eq!(state.close_step(0), Ok(()));
     assert_eq!(state.close_step(0), Err(CallFault::AlreadyClosed));
@@ -113,6 +122,7 @@ fn works(mut state: State) {
             state.fate(number),
             state.is_closed(number),
             state.is_broken(number),
+            state.window(number),
         );
     }
     for event in 0..3 {
@@ -120,12 +130,14 @@ fn works(mut state: State) {
         let _ = state.close_step(event);
     }
     let _ = state.finish();
+    let later = state.minute().saturating_add(1);
+    assert_eq!(state.advance(later), Ok(()));
     assert_eq!(State::from_bytes(state.as_bytes()), Ok(state));
 }
 
 #[test]
 fn a_state_says_what_it_holds() {
-    let said = "State { fates: [Held, Open], closed: [], broken: [], history: [], .. }";
+    let said = "State { minute: 0, fates: [Held, Open], closed: [], broken: [], history: [], .. }";
     assert_eq!(format!("{:?}", state()), said);
 }
 

@@ -1,7 +1,7 @@
 //! The numbers here are those of the C header.
 
 use sinewhopa::raw::{self, Entry, CLOSE_STEP, HAND_IN};
-use sinewhopa::{CallFault, Fate, SheetFault, State, STATE_LEN};
+use sinewhopa::{CallFault, Fate, SheetFault, State, Window, STATE_LEN};
 use sinewhopa::{LONGEST_BATCH, LONGEST_REPORT, LONGEST_SHEET};
 use std::collections::BTreeMap;
 use std::mem::{offset_of, size_of};
@@ -62,6 +62,8 @@ fn numbers_are_the_headers() {
         ("INCOHERENT", CallFault::Incoherent.number().into()),
         ("TOO_LONG", CallFault::TooLong.number().into()),
         ("NO_ROOM", CallFault::NoRoom.number().into()),
+        ("BAD_WINDOW", SheetFault::BadWindow { at }.number().into()),
+        ("BACKWARD", CallFault::Backward.number().into()),
     ];
     for (name, number) in rows {
         assert_eq!(constants.get(name), Some(&number), "{name}");
@@ -82,8 +84,11 @@ fn fields(of: &str, bytes: usize) -> BTreeMap<&'static str, (usize, usize)> {
     for line in body.lines() {
         let line = line.strip_prefix("    uint8_t ").expect("bytes");
         let (field, _) = line.split_once(';').expect("a field");
-        let (name, length) = field.split_once('[').unwrap_or((field, "1]"));
-        let length = length.trim_end_matches(']').parse().expect("a length");
+        let mut parts = field.split(['[', ']']).filter(|part| !part.is_empty());
+        let name = parts.next().expect("a name");
+        let length = parts
+            .map(|part| part.parse::<usize>().expect("a length"))
+            .product();
         fields.insert(name, (end, length));
         end += length;
     }
@@ -142,6 +147,36 @@ fn readers_read_the_headers_fields() {
     assert_eq!(history, [(1, Fate::Lapsed), (0, Fate::Done)]);
     assert_eq!(state.held().collect::<Vec<u8>>(), [3]);
     assert_eq!(raw::check(state.as_bytes()), 0);
+}
+
+/// The minute and windows are read where the header says: a byte that is written there is
+/// read, and with the weight of its place.
+#[test]
+fn minutes_are_read_from_the_headers_fields() {
+    let fields = fields("sinewhopa_state", STATE_LEN);
+    let places = ["minute", "from", "until", "spare"].map(|name| fields[name]);
+    assert_eq!(places, [(172, 4), (176, 64), (240, 64), (304, 80)]);
+    let [minute, from, until, _] = places.map(|(start, _)| start);
+    let mut bytes = *State::open(&[6, 0, 1, 1, 6, 5])
+        .expect("a sheet")
+        .as_bytes();
+    for (place, weight) in (0..4).zip([1, 256, 65_536, 16_777_216]) {
+        bytes[minute + place] = 7;
+        bytes[from + 4 * 4 + place] = 1;
+        bytes[until + 4 * 4 + place] = 2;
+        let state = State::from_bytes(&bytes).expect("a state");
+        assert_eq!(state.minute(), 7 * weight);
+        let (from_minute, until_minute) = (weight, 2 * weight);
+        let window = Window {
+            from: from_minute,
+            until: until_minute,
+        };
+        assert_eq!(state.window(4), Some(window));
+        assert!((0..=255).all(|event| event == 4 || state.window(event).is_none()));
+        for start in [minute, from + 4 * 4, until + 4 * 4] {
+            bytes[start + place] = 0;
+        }
+    }
 }
 
 /// A preview has its counts from the header's places.

@@ -8,16 +8,17 @@ use sinewhopa::{raw, CallFault, Fate, State, LONGEST_SHEET, STATE_LEN};
 use std::collections::BTreeSet;
 
 /// Where a state's bytes have how many events and rules there are; steps and attributes
-/// of events; and kinds of rules with their events, a, b and c.
+/// of events; kinds of rules with their events, a, b and c; and windows of events.
 const EVENTS: usize = 1;
 const RULES: usize = 2;
 const EVENT_ROWS: [usize; 2] = [4, 20];
 const RULE_ROWS: [usize; 4] = [36, 52, 68, 84];
+const WINDOW_ROWS: [usize; 2] = [176, 240];
 
 /// How many bytes around a lent buffer are looked at too.
 const AROUND: usize = 8;
 
-/// The records of the events and rules that stand in the bytes, and the end.
+/// The records of the events, rules and windows that stand in the bytes, and the end.
 fn declared(bytes: &Bytes) -> Vec<u8> {
     let mut sheet = Vec::new();
     for event in 0..usize::from(bytes[EVENTS]) {
@@ -28,6 +29,14 @@ fn declared(bytes: &Bytes) -> Vec<u8> {
         let record = RULE_ROWS.map(|row| bytes[row + rule]);
         let length = if record[0] == 4 { 4 } else { 3 };
         sheet.extend(&record[..length]);
+    }
+    for event in 0..bytes[EVENTS] {
+        let start = WINDOW_ROWS.map(|row| row + 4 * usize::from(event));
+        let window = start.map(|start| &bytes[start..start + 4]).concat();
+        if window != [0; 8] {
+            sheet.extend([7, event]);
+            sheet.extend(window);
+        }
     }
     sheet.push(5);
     sheet
@@ -49,8 +58,8 @@ fn lent(bytes: &Bytes, room: usize, answer: (u8, usize), written: &[u8]) {
 }
 
 /// Has the state written through every function, with room for none of its sheet's bytes
-/// up to two more than it has. Sees that it reads as the same events and rules, with every
-/// event open, and is then written as the same bytes. Gives the sheet.
+/// up to two more than it has. Sees that it reads as the same events, rules and windows, at
+/// minute 0 with every event open, and is then written as the same bytes. Gives the sheet.
 fn written(state: &State) -> Vec<u8> {
     let sheet = declared(state.as_bytes());
     let length = sheet.len();
@@ -73,14 +82,14 @@ fn written(state: &State) -> Vec<u8> {
     assert_eq!(declared(read.as_bytes()), sheet);
     assert_eq!(read.to_sheet().as_ref(), Ok(&sheet));
     let mut fates = (0..read.event_count()).map(|event| read.fate(event));
-    assert!(fates.all(|fate| fate == Some(Fate::Open)));
+    assert!(fates.all(|fate| fate == Some(Fate::Open)) && read.minute() == 0);
     sheet
 }
 
 /// Each kind of record; a sheet that stands as it is written stays as it is.
 #[test]
 fn each_kind_is_written() {
-    let rows: [&[u8]; 6] = [
+    let rows: [&[u8]; 7] = [
         &[5],
         &[1, 7, 0, 5],
         &[1, 2, 3, 1, 0, 6, 5],
@@ -89,6 +98,7 @@ fn each_kind_is_written() {
         &[
             1, 4, 6, 1, 5, 2, 1, 6, 7, 4, 2, 0, 1, 3, 0, 1, 4, 0, 1, 2, 5,
         ],
+        &[1, 0, 6, 1, 1, 6, 2, 0, 1, 7, 1, 1, 2, 3, 4, 5, 6, 7, 255, 5],
     ];
     for sheet in rows {
         assert_eq!(written(&open(sheet)), sheet);
@@ -130,6 +140,29 @@ fn what_is_numbered_alike_is_written_alike() {
     }
 }
 
+/// Windows by event, whatever sequence they are declared in, and wherever they stand.
+#[test]
+fn windows_are_written_by_event_after_the_rules() {
+    let (low, high) = (
+        [7, 0, 1, 0, 0, 0, 2, 0, 0, 0],
+        [7, 2, 0, 0, 0, 9, 1, 0, 0, 9],
+    );
+    let events = [1, 0, 6, 1, 1, 0, 1, 2, 7];
+    let rule = [2, 0, 2];
+    let sheet = [&events[..], &rule, &low, &high, &[5]].concat();
+    let alike = [
+        [&events[..], &rule, &high, &low, &[5]].concat(),
+        [&events[..], &high, &rule, &low, &[5]].concat(),
+        [&events[..3], &low, &events[3..], &high, &rule, &[5]].concat(),
+    ];
+    assert_eq!(written(&open(&sheet)), sheet);
+    for other in alike {
+        assert_eq!(written(&open(&other)), sheet, "{other:?}");
+    }
+    let without = [&events[..], &rule, &low, &[5]].concat();
+    assert_ne!(written(&open(&without)), sheet);
+}
+
 /// Also the one that comes of a sheet that is turned down.
 #[test]
 fn the_empty_state_is_one_byte() {
@@ -139,16 +172,17 @@ fn the_empty_state_is_one_byte() {
     assert_eq!(written(&state), [5]);
 }
 
-/// Sixteen events, four at a time, and sixteen rules with three events each.
+/// Sixteen events, sixteen rules with three events each, and sixteen windows.
 fn longest() -> State {
+    let events = (0..16).flat_map(|event| [1, event % 8, 6 + event % 2]);
     let rules = (0..16).flat_map(|rule| [4, rule, (rule + 1) % 16, (rule + 2) % 16]);
-    let events = [6, 7, 6, 5, 6, 0, 6, 6];
-    let sheet: Vec<u8> = events.into_iter().chain(rules).chain([5]).collect();
+    let windows = (0..16).flat_map(|event| [7, event, 0, event, 0, 7, 1, event, 0, 7]);
+    let sheet: Vec<u8> = events.chain(rules).chain(windows).chain([5]).collect();
     open(&sheet)
 }
 
 #[test]
-fn sixteen_of_both_make_the_longest_sheet() {
+fn sixteen_of_all_make_the_longest_sheet() {
     assert_eq!(written(&longest()).len(), LONGEST_SHEET);
 }
 
@@ -157,8 +191,12 @@ fn sixteen_of_both_make_the_longest_sheet() {
 fn long_buffers_stay_beyond_the_sheet() {
     for state in [open(&[5]), open(PARTIES), longest()] {
         let sheet = declared(state.as_bytes());
-        for room in [255, 256, 257, 65_535, 65_536, 65_537, 1 << 20] {
-            lent(state.as_bytes(), room, (0, sheet.len()), &sheet);
+        for room in [255, 256, 257, 272, 273, 65_535, 65_536, 65_537, 1 << 20] {
+            let (number, written) = match room < sheet.len() {
+                true => (14, &[][..]),
+                false => (0, &sheet[..]),
+            };
+            lent(state.as_bytes(), room, (number, sheet.len()), written);
         }
     }
 }
@@ -194,15 +232,19 @@ impl Numbers {
     fn sheet(&mut self) -> Vec<u8> {
         let mut sheet = vec![5];
         for _ in 0..self.below(100) {
-            let kind = [1, 1, 2, 3, 4, 6][usize::from(self.below(6))];
+            let kind = [1, 1, 2, 3, 4, 6, 7][usize::from(self.below(7))];
             let (length, end) = match kind {
                 1 => (2, 8),
                 6 => (1, 8),
+                7 => (1, 16), // an event; the minutes of its window follow
                 4 => (3, 16),
                 _ => (2, 16),
             };
             let mut record = vec![kind];
             record.extend((0..length).map(|_| self.below(end)));
+            if kind == 7 {
+                record.extend((0..8).map(|_| self.below(256)));
+            }
             let longer = [&sheet[..sheet.len() - 1], &record, &[5]].concat();
             if State::open(&longer).is_ok() {
                 sheet = longer;
@@ -218,11 +260,18 @@ impl Numbers {
 fn what_is_written_reads_as_what_was_read() {
     let mut numbers = Numbers(1);
     let mut met = BTreeSet::new();
+    let mut windows = BTreeSet::new();
     for _ in 0..1000 {
         let state = open(&numbers.sheet());
         assert_eq!(open(&written(&state)), state);
         met.insert((state.event_count(), state.rule_count()));
+        windows.insert(
+            (0..16)
+                .filter(|event| state.window(*event).is_some())
+                .count(),
+        );
     }
+    assert!(windows.contains(&0) && windows.len() > 3, "{windows:?}");
     assert!(met.contains(&(0, 0)) && met.contains(&(16, 16)), "{met:?}");
 }
 
@@ -237,6 +286,7 @@ fn calls_leave_the_sheet_as_it_is() {
         let sheet = written(&state);
         for _ in 0..12 {
             numbers.call(&mut state);
+            let _ = state.advance(u32::from(numbers.below(256)) << 24); // taken or not
             assert_eq!(written(&state), sheet);
         }
         let events = (0..state.event_count()).filter_map(|event| state.fate(event));
