@@ -169,8 +169,8 @@ placeOk b i =
     && ltb (byteAt b (markAt + i)) 2
     && ltb (byteAt b (lineFateAt + i)) 6
 
--- the lower three numbers that number e of four bytes is read from, the minute and then those of the windows, are bytes. Of
--- bytes this says nothing: whatever they are, they are an image there
+-- the lower three numbers that number e of four bytes is read from, the minute and then those of the windows, are
+-- bytes. Of bytes this says nothing: whatever they are, they are an image there
 abbrev pub isByte : ℕ → Bool
 isByte n = ltb n 256
 

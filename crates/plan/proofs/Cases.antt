@@ -173,8 +173,8 @@ pub sound :
 unfolding anyBelow hasEvent soundEvent soundRule named enforceable addEvent addRule
 sound = (refl, refl, refl, refl)
 
--- S-7. Event 6 with a window from 2 until 5: the minutes at which it may be done, at which its window is over; the same of
--- an event without one; windows that a sheet may not give, and plans whose windows pass
+-- S-7. Event 6 with a window from 2 until 5: the minutes at which it may be done, at which its window is over; the
+-- same of an event without one; windows that a sheet may not give, and plans whose windows pass
 abbrev clock : Plan
 clock = addWindow eight 6 2 5
 

@@ -156,8 +156,8 @@ pub listed-calls :
 unfolding firstCall decodeUpTo decode
 listed-calls = refl
 
--- of every kind: a minute's bytes, lowest first; 19 as a number, and the greatest minute; cut at kind 19 and at kind 17;
--- kind 20
+-- of every kind: a minute's bytes, lowest first; 19 as a number, and the greatest minute; cut at kind 19 and at kind
+-- 17; kind 20
 pub listed-any-calls :
     map decodeAll (
     (19 ∷ 1 ∷ 2 ∷ 3 ∷ 4 ∷ 18 ∷ [])

@@ -34,8 +34,8 @@ soundEvent p e = not (badStep (stepOf p e)) && not (badAttributes (attributesOf 
 unfoldable pub soundRule : Plan → ℕ → Bool
 soundRule p i = named (eventCount p) (ruleAt p i) && enforceable p (ruleAt p i)
 
--- a window that a sheet may not give e: of an event not declared, not delayable or already with one, or one that does not
--- end after it begins (2.10, 4.2)
+-- a window that a sheet may not give e: of an event not declared, not delayable or already with one, or one that does
+-- not end after it begins (2.10, 4.2)
 unfoldable pub badWindow : Plan → ℕ → ℕ → ℕ → Bool
 badWindow p e from until = leb (eventCount p) e || not (delayable p e) || hasWindow p e || leb until from
 

@@ -366,15 +366,16 @@ cases =
       Close 8 ∷ Close 2 ∷ Close 0 ∷ Close 0 ∷ Finish ∷ Submit 2 ∷ Submit 0 ∷ [],
       ran (TurnedDown Unknown ∷ TurnedDown Unknown ∷ Made ∷ TurnedDown AlreadyClosed ∷ TurnedDown NotClosed ∷ TurnedDown Unknown ∷ Is Lapsed ∷ []) ((0, Lapsed) ∷ []) (false ∷ false ∷ []),
     )
-    -- S-7 and S-6: whether c can be forced goes by its attributes alone. So 0 need not wait for it; and 1 breaks the rule
+    -- S-7 and S-6: whether c can be forced goes by its attributes alone. So 0 need not wait for it; and 1 breaks the
+    -- rule
     ∷ (sheetX, Submit 0 ∷ Submit 1 ∷ [], ran (Is Done ∷ Is Done ∷ []) ((0, Done) ∷ (1, Done) ∷ []) (true ∷ []))
     -- S-7. Before its window an event is held; in its first and in its last minute it is done
     ∷ (sheetT, Submit 0 ∷ Submit 0 ∷ [], ran (Is Held ∷ Is Held ∷ []) [] [])
     ∷ (sheetT, Submit 0 ∷ Advance 1 ∷ [], ran (Is Held ∷ Made ∷ []) ((0, Done) ∷ []) [])
     ∷ (sheetT, Submit 0 ∷ Advance 0 ∷ Advance 2 ∷ [], ran (Is Held ∷ Made ∷ Made ∷ []) ((0, Done) ∷ []) [])
     ∷ (sheetT, Advance 2 ∷ Submit 0 ∷ [], ran (Made ∷ Is Done ∷ []) ((0, Done) ∷ []) [])
-    -- at its end a held one is refused, and minutes jumped over do nothing; an open one stays open, and is refused when it
-    -- is handed in, or lapses
+    -- at its end a held one is refused, and minutes jumped over do nothing; an open one stays open, and is refused
+    -- when it is handed in, or lapses
     ∷ (sheetT, Submit 0 ∷ Advance 3 ∷ [], ran (Is Held ∷ Made ∷ []) ((0, Refused) ∷ []) [])
     ∷ (sheetT, Submit 0 ∷ Advance 9 ∷ [], ran (Is Held ∷ Made ∷ []) ((0, Refused) ∷ []) [])
     ∷ (sheetT, Advance 3 ∷ Submit 0 ∷ [], ran (Made ∷ Is Refused ∷ []) ((0, Refused) ∷ []) [])
@@ -448,8 +449,9 @@ brought =
     ∷ (settleAs Forced (firstOn sheetG) 1, Submit 1 ∷ Submit 0 ∷ [], Is Forced ∷ Is Refused ∷ [])
     ∷ (settleAs Forced (firstOn sheetD) 0, Submit 1 ∷ [], TurnedDown Incoherent ∷ [])
     ∷ (settleAs Forced (settleAs Forced (firstOn sheetD) 0) 1, Submit 1 ∷ [], Is Forced ∷ [])
-    -- 12, S-7: a window on an event that is not declared or not delayable, one that ends before it begins, a from without
-    -- an until; number 12 goes before number 16. A held event past its window is no fault: the next settling refuses it
+    -- 12, S-7: a window on an event that is not declared or not delayable, one that ends before it begins, a from
+    -- without an until; number 12 goes before number 16. A held event past its window is no fault: the next settling
+    -- refuses it
     ∷ (firstState (addWindow (addEvent emptyPlan 0 6) 0 1 2), Submit 0 ∷ [], Is Held ∷ [])
     ∷ (firstState (addWindow (addEvent emptyPlan 0 6) 1 1 2), Submit 0 ∷ [], TurnedDown Incoherent ∷ [])
     ∷ (firstState (addWindow (addEvent emptyPlan 0 6) 15 1 2), Submit 0 ∷ [], TurnedDown Incoherent ∷ [])

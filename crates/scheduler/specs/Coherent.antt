@@ -20,9 +20,9 @@ coherentRule s i =
     && (brokenAt s i
     || (not (owes (s .plan) (fateOf s) (ruleAt (s .plan) i)) && holds (lines s) (ruleAt (s .plan) i)))
 
--- number 12 does not apply: counts within their limits, events, rules and windows that a sheet could declare, a history that
--- lists the settled events once each and nothing else, no event held that cannot wait, no event open in a closed step,
--- and no rule that stands owing or broken (10.4, 10.5)
+-- number 12 does not apply: counts within their limits, events, rules and windows that a sheet could declare, a
+-- history that lists the settled events once each and nothing else, no event held that cannot wait, no event open in a
+-- closed step, and no rule that stands owing or broken (10.4, 10.5)
 unfoldable pub coherent : State → Bool
 coherent s =
     leb (eventCount (s .plan)) 16

@@ -6,8 +6,8 @@ use Rattle.plan.specs.Fates.{Fates, fatesOf, blankStanding}
 use Rattle.plan.specs.Plans.{emptyPlan, allowedAt, overAt}
 use Rattle.plan.specs.Histories.{blankEntry}
 
--- nothing has happened: every event is open, no step is closed, nothing is recorded, the history is empty and the minute
--- is 0 (5.5)
+-- nothing has happened: every event is open, no step is closed, nothing is recorded, the history is empty and the
+-- minute is 0 (5.5)
 abbrev pub firstState : Plan → State
 firstState p = record {
   plan = p;

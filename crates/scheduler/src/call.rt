@@ -1,5 +1,5 @@
-// The calls: hand in, close a step, wind up, advance the minute. Each takes the state and gives the answer and the state
-// after it; one that is turned down gives back the state as it came in.
+// The calls: hand in, close a step, wind up, advance the minute. Each takes the state and gives the answer and the
+// state after it; one that is turned down gives back the state as it came in.
 use super::reply::Reply;
 use super::settle::Turned;
 use super::state::Course;
@@ -256,8 +256,8 @@ impl State {
         self.settle_decided(event)
     }
 
-    // An event that is not delayable is held and decided: its chosen order is done, else it is refused if it is rejectable,
-    // else done alone. Then the rest is settled; where nothing is held there is nothing to settle.
+    // An event that is not delayable is held and decided: its chosen order is done, else it is refused if it is
+    // rejectable, else done alone. Then the rest is settled; where nothing is held there is nothing to settle.
     fn settle_decided(self, event: u8) -> Course
         ensures { λ r. ⌜ r ≡ courseOf (settle (decide (hold self event) event)) ⌝ }
     {

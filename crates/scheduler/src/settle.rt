@@ -46,8 +46,8 @@ impl State {
         self.with_course(settled)
     }
 
-    // An event becomes held (16: none does), and the rest is settled: turns until none is left. Each settles an event, and
-    // there are at most 16; where nothing is held there is none.
+    // An event becomes held (16: none does), and the rest is settled: turns until none is left. Each settles an event,
+    // and there are at most 16; where nothing is held there is none.
     pub(crate) fn settle_with(self, event: u8) -> Course
         ensures { λ r. ⌜ r ≡ courseOf (settle (hold self event)) ⌝ }
     {
@@ -160,8 +160,8 @@ impl State {
     }
 }
 
-// The lowest held event that is barred; 16 if there is none. Where nothing is done, refused or lapsed, no rule bars; and
-// none is barred by its window where none is over.
+// The lowest held event that is barred; 16 if there is none. Where nothing is done, refused or lapsed, no rule bars;
+// and none is barred by its window where none is over.
 fn find_barred(rules: [RuleLine; 16], broken: [bool; 16], count: u8, view: View, times: Times) -> u8
     ensures { λ r. ⌜ ((s : State) → s .plan .rules ≡ rules → s .broken ≡ broken → ruleCount (s .plan) ≡ count → Shows (s .plan) (fateOf s) view → Timing s times → r ≡ orSixteen (toRefuse s)) ⌝ }
 {

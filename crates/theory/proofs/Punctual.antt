@@ -1,4 +1,5 @@
--- S-7: no event is done or forced outside its window, none is held at or after its end, and what is over is so for good.
+-- S-7: no event is done or forced outside its window, none is held at or after its end, and what is over is so for
+-- good.
 use Prim.Native.Nat.{ℕ, _≤_, _<_}
 use native.Mathlib.Omega.{arith}
 use native.Mathlib.Decide.{ℕ-discrete, decLt}

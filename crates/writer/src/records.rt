@@ -72,7 +72,8 @@ fn put_rule(page: &mut [u8; MOST], at: usize, rule: Rule) -> usize
     }
 }
 
-// A record of kind 7 for each event that has a window, after at most sixteen records of three bytes and as many of four.
+// A record of kind 7 for each event that has a window, after at most sixteen records of three bytes and as many of
+// four.
 fn put_windows(page: &mut [u8; MOST], at: usize, windows: [Window; 16], count: u8) -> usize
     requires few { ⌜ count ≤ 16 ⌝ }
     requires room { ⌜ at ≤ 112 ⌝ }

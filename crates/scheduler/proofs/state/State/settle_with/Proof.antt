@@ -1,5 +1,5 @@
--- `State::settle_with` meets its contract. The loop: the turns that are left settle the whole, the view is the state's, and
--- so are the sets and arrays that stay.
+-- `State::settle_with` meets its contract. The loop: the turns that are left settle the whole, the view is the
+-- state's, and so are the sets and arrays that stay.
 use Prim.Native.Nat.{_-_}
 use native.Mathlib.Omega.{arith}
 use borrow.Author.Needs.{needs}
