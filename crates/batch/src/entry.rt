@@ -1,9 +1,9 @@
 // An entry of a batch, and its turn: the single call that it asks for, with the answer written into it.
+use checks::answer::answer_fate;
+use checks::answer::answer_number;
+use checks::fate::fate_number;
 use plan::answer::Answer;
 use plan::answer::FateAnswered;
-use plan::answer::answer_fate;
-use plan::answer::answer_number;
-use plan::fate::fate_number;
 use scheduler::reply::Reply;
 use scheduler::state::State;
 ghost use mathlib.Core.Path.{_≡_};

@@ -1,8 +1,8 @@
 // A batch on a kept state, 384 bytes: the state that it begins with, and what it leaves.
+use checks::answer::answer_number;
 use image::read::state_in;
 use image::test::is_image;
 use image::write::put_state;
-use plan::answer::answer_number;
 use scheduler::reply::Reply;
 use scheduler::state::State;
 ghost use mathlib.Core.Bool.{cond};

@@ -1,10 +1,10 @@
 // One pass over the lines of a history. A length above 16 stands for all 16 places.
+use checks::fate::is_done;
+use checks::fate::is_same;
+use checks::fate::is_settled;
+use checks::history::lines_in;
 use plan::fate::Standing;
-use plan::fate::is_done;
-use plan::fate::is_same;
-use plan::fate::is_settled;
 use plan::history::Entry;
-use plan::history::lines_in;
 ghost use lib.ListN.{take};
 ghost use Rattle.plan.specs.Fates.{fatesOf};
 ghost use Rattle.coherence.specs.Listings.{Listed};

@@ -2,21 +2,21 @@
 // also those of a state that a caller made up. A pass does not get the history: it says what holds of every history that
 // goes with what it gets.
 use super::listing::list_events;
+use checks::event::are_bad;
+use checks::event::is_delayable;
+use checks::event::is_forcible;
+use checks::event::is_rejectable;
+use checks::fate::is_held;
+use checks::fate::is_open;
+use checks::fate::is_settled;
+use checks::rule::are_named;
+use checks::rule::is_enforceable;
 use plan::event::Event;
-use plan::event::are_bad;
-use plan::event::is_delayable;
-use plan::event::is_forcible;
-use plan::event::is_rejectable;
 use plan::fate::Fate;
 use plan::fate::Standing;
-use plan::fate::is_held;
-use plan::fate::is_open;
-use plan::fate::is_settled;
 use plan::history::Entry;
 use plan::plan::Plan;
 use plan::rule::Rule;
-use plan::rule::are_named;
-use plan::rule::is_enforceable;
 use plan::window::Window;
 ghost use mathlib.Core.Bool.{Bool, true, not, _&&_};
 ghost use mathlib.Core.List.{List};

@@ -2,8 +2,8 @@
 use super::read::state_in;
 use super::test::is_image;
 use super::write::put_call;
+use checks::answer::answer_number;
 use plan::answer::Answer;
-use plan::answer::answer_number;
 use plan::calls::Call;
 use scheduler::state::State;
 ghost use mathlib.Core.Path.{_≡_};

@@ -1,6 +1,6 @@
 // Numbers in an image and in answers: fates, rules, and the verdict on a sheet.
+use checks::answer::sheet_fault_number;
 use plan::answer::Verdict;
-use plan::answer::sheet_fault_number;
 use plan::fate::Fate;
 use plan::rule::Rule;
 ghost use mathlib.Core.Path.{_≡_};

@@ -1,7 +1,7 @@
 // The state that bytes say, array by array.
 use super::number::fate_from;
 use super::number::rule_from;
-use plan::bytes::word_of;
+use checks::bytes::word_of;
 use plan::event::Event;
 use plan::fate::Fate;
 use plan::fate::Standing;

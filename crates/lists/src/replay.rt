@@ -1,9 +1,9 @@
 // A whole list of calls of every kind, moves of the minute among them: the sheet, then each call on the state that the
 // one before gave.
+use checks::calls::any_call_at;
+use checks::calls::call_size;
 use plan::answer::Verdict;
 use plan::calls::CallRead;
-use plan::calls::any_call_at;
-use plan::calls::call_size;
 use scheduler::reply::Outcome;
 use scheduler::state::State;
 use sheet::read::read_sheet;

@@ -1,10 +1,10 @@
 // A whole list: the sheet, then each call on the state that the one before gave.
+use checks::calls::call_at;
+use checks::calls::call_size;
+use checks::fate::is_open;
 use plan::answer::Verdict;
 use plan::calls::Call;
 use plan::calls::CallRead;
-use plan::calls::call_at;
-use plan::calls::call_size;
-use plan::fate::is_open;
 use scheduler::reply::Outcome;
 use scheduler::state::State;
 use sheet::read::read_sheet;

@@ -1,8 +1,8 @@
 // The windows of the sixteen events, at a minute, as sets.
 use super::set::with_if;
+use checks::window::is_allowed;
+use checks::window::is_over;
 use plan::window::Window;
-use plan::window::is_allowed;
-use plan::window::is_over;
 ghost use mathlib.Core.Path.{_≡_};
 ghost use Rattle.members.specs.Times.{Clocks, anyWindow};
 

@@ -1,7 +1,5 @@
 // Why a sheet or a call is turned down, and what it answers.
 use super::fate::Fate;
-ghost use mathlib.Core.Path.{_≡_};
-ghost use Rattle.plan.specs.Faults.{sheetFaultNumber, callFaultNumber, answerNumber, answerFate};
 
 // Why a sheet is turned down, in the order of the numbers 1 to 8 and 15.
 pub enum SheetFault {
@@ -44,57 +42,4 @@ pub enum FateAnswered {
 pub enum Verdict {
     Admitted,
     Faulty(SheetFault, usize),
-}
-
-// The number that the table gives (4.2).
-pub fn sheet_fault_number(fault: SheetFault) -> usize
-    ensures { λ r. ⌜ r ≡ sheetFaultNumber fault ⌝ }
-{
-    match fault {
-        SheetFault::Cut => 1,
-        SheetFault::BadKind => 2,
-        SheetFault::Full => 3,
-        SheetFault::BadStep => 4,
-        SheetFault::BadAttributes => 5,
-        SheetFault::BadNames => 6,
-        SheetFault::Unenforceable => 7,
-        SheetFault::Extra => 8,
-        SheetFault::BadWindow => 15,
-    }
-}
-
-pub fn call_fault_number(fault: CallFault) -> usize
-    ensures { λ r. ⌜ r ≡ callFaultNumber fault ⌝ }
-{
-    match fault {
-        CallFault::Unknown => 9,
-        CallFault::AlreadyClosed => 10,
-        CallFault::NotClosed => 11,
-        CallFault::Incoherent => 12,
-        CallFault::TooLong => 13,
-        CallFault::NoRoom => 14,
-        CallFault::Backward => 16,
-    }
-}
-
-// An answer's number: the fault's where the call is turned down, and 0 where it is taken.
-pub fn answer_number(answer: Answer) -> usize
-    ensures { λ r. ⌜ r ≡ answerNumber answer ⌝ }
-{
-    match answer {
-        Answer::Is(fate) => 0,
-        Answer::Made => 0,
-        Answer::TurnedDown(fault) => call_fault_number(fault),
-    }
-}
-
-// An answer's fate.
-pub fn answer_fate(answer: Answer) -> FateAnswered
-    ensures { λ r. ⌜ r ≡ answerFate answer ⌝ }
-{
-    match answer {
-        Answer::Is(fate) => FateAnswered::Is(fate),
-        Answer::Made => FateAnswered::Nothing,
-        Answer::TurnedDown(fault) => FateAnswered::Nothing,
-    }
 }

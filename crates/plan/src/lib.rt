@@ -1,7 +1,6 @@
 // What a sheet declares, what rules say of it and of the fates of its events, and the formats of sheets and calls:
-// types, and tests of single events and rules. The definitions stand in specs/.
+// types alone. The definitions stand in specs/, the functions in `checks`.
 pub mod answer;
-pub mod bytes;
 pub mod calls;
 pub mod event;
 pub mod fate;

@@ -1,13 +1,5 @@
 // Rules, and which a sheet takes. Tests of a single rule take the arrays that they read, and not the whole plan: they say
 // what holds of every plan with these events. What a rule forbids and owes is asked of sets, in `members`.
-use super::event::Event;
-use super::event::is_delayable;
-use super::event::is_forcible;
-use super::event::is_rejectable;
-ghost use mathlib.Core.Path.{_≡_};
-ghost use Rattle.plan.specs.Prelude.{Plan};
-ghost use Rattle.plan.specs.Rules.{named, enforceable};
-ghost use Rattle.plan.specs.Internal.Names.{namesOf};
 
 // Order a, b: a before b. Need a, b: a only if b. Conditional a, b, c: if a and b, then c.
 pub enum Rule {
@@ -22,77 +14,8 @@ pub struct RuleLine {
 }
 
 // The events that a rule names, by their place in it.
-struct Names {
-    first: u8,
-    second: u8,
-    last: u8,
-}
-
-// Are the rule's events declared, and none named twice?
-pub fn are_named(count: u8, rule: Rule) -> bool
-    ensures { λ r. ⌜ r ≡ named count rule ⌝ }
-{
-    let n = count;
-    match rule {
-        Rule::Order(a, b) => (a < n) & (b < n) & !(a == b),
-        Rule::Need(a, b) => (a < n) & (b < n) & !(a == b),
-        Rule::Conditional(a, b, c) => {
-            (a < n) & (b < n) & (c < n) & !(a == b) & !(a == c) & !(b == c)
-        }
-    }
-}
-
-// Can the rule be enforced?
-pub fn is_enforceable(events: [Event; 16], rule: Rule) -> bool
-    ensures { λ r. ⌜ ((p : Plan) → p .events ≡ events → r ≡ enforceable p rule) ⌝ }
-{
-    let names = names_of(rule);
-    let a = names.first;
-    let b = names.second;
-    let c = names.last;
-    let mut first: u8 = 0;
-    if a < 16 {
-        let event = events[a as usize];
-        first = event.attributes;
-    }
-    let mut second: u8 = 0;
-    if b < 16 {
-        let event = events[b as usize];
-        second = event.attributes;
-    }
-    let mut last: u8 = 0;
-    if c < 16 {
-        let event = events[c as usize];
-        last = event.attributes;
-    }
-    match rule {
-        Rule::Order(x, y) => is_delayable(last) | is_rejectable(first),
-        Rule::Need(x, y) => is_rejectable(first) | is_forcible(last),
-        Rule::Conditional(x, y, z) => {
-            is_rejectable(first) | is_rejectable(second) | is_forcible(last)
-        }
-    }
-}
-
-// The events that a rule names; of two the second is also the last.
-fn names_of(rule: Rule) -> Names
-    ensures { λ r. ⌜ r ≡ namesOf rule ⌝ }
-{
-    match rule {
-        Rule::Order(a, b) => Names {
-            first: a,
-            second: b,
-            last: b,
-        },
-        Rule::Need(a, b) => Names {
-            first: a,
-            second: b,
-            last: b,
-        },
-        Rule::Conditional(a, b, c) => Names {
-            first: a,
-            second: b,
-            last: c,
-        },
-    }
+pub struct Names {
+    pub first: u8,
+    pub second: u8,
+    pub last: u8,
 }

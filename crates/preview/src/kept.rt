@@ -1,9 +1,9 @@
 // A preview on a kept state, 384 bytes, which are only read.
 use super::preview::PreviewReply;
 use super::preview::preview;
+use checks::answer::call_fault_number;
 use image::read::state_in;
 use image::test::is_image;
-use plan::answer::call_fault_number;
 ghost use mathlib.Core.Path.{_≡_};
 ghost use Rattle.preview.specs.Kept.{previewNumber, writtenBy, previewNumberOn, countsOn};
 

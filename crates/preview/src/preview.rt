@@ -1,10 +1,10 @@
 // A preview of a hand-in: it is made on a copy of the state, and the lines that it adds to the history are counted by fate.
+use checks::fate::is_same;
+use checks::history::lines_in;
 use plan::answer::Answer;
 use plan::answer::CallFault;
 use plan::fate::Fate;
-use plan::fate::is_same;
 use plan::history::Entry;
-use plan::history::lines_in;
 use scheduler::state::State;
 ghost use mathlib.Core.Path.{_≡_};
 ghost use lib.ListN.{take, drop};

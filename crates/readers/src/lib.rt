@@ -1,7 +1,7 @@
 // What a caller reads of a state. An undeclared number answers so, and never "open".
+use checks::fate::is_held;
 use plan::event::Event;
 use plan::fate::Fate;
-use plan::fate::is_held;
 use plan::history::Entry;
 use plan::rule::Rule;
 use scheduler::state::State;

@@ -2,14 +2,14 @@
 use super::page::put_count;
 use super::page::put_decimal;
 use super::page::put_line;
+use checks::answer::sheet_fault_number;
+use checks::history::lines_in;
 use pages::MOST;
 use pages::put_bytes;
 use plan::answer::SheetFault;
 use plan::answer::Verdict;
-use plan::answer::sheet_fault_number;
 use plan::fate::Fate;
 use plan::history::Entry;
-use plan::history::lines_in;
 use readers::broken_count;
 use readers::held_count;
 use scheduler::reply::Outcome;

@@ -1,10 +1,10 @@
 // Runs the reader of sheets, the search, single calls and the readers of a state on small sheets and prints what
 // comes of each: the gate compares it with the file `stdout`.
+use checks::answer::call_fault_number;
+use checks::answer::sheet_fault_number;
 use libc::STDOUT_FILENO;
 use plan::answer::Answer;
 use plan::answer::Verdict;
-use plan::answer::call_fault_number;
-use plan::answer::sheet_fault_number;
 use plan::calls::Call;
 use plan::fate::Fate;
 use plan::fate::Standing;

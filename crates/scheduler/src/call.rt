@@ -5,20 +5,20 @@ use super::settle::Turned;
 use super::state::Course;
 use super::state::State;
 use super::state::do_events;
+use checks::event::is_delayable;
+use checks::event::is_rejectable;
+use checks::fate::is_held;
+use checks::fate::is_open;
+use checks::plans::has_event;
 use members::rule::does_forbid;
 use members::rule::does_owe;
 use members::set::lowest_of;
 use plan::answer::Answer;
 use plan::answer::CallFault;
 use plan::calls::Call;
-use plan::event::is_delayable;
-use plan::event::is_rejectable;
 use plan::fate::Fate;
 use plan::fate::Standing;
-use plan::fate::is_held;
-use plan::fate::is_open;
 use plan::history::Entry;
-use plan::plan::has_event;
 ghost use mathlib.Core.Path.{_≡_};
 ghost use mathlib.Core.Option.{Option·map};
 ghost use Rattle.scheduler.specs.Prelude.{Refused, Submit, Close, Finish, Advance};
@@ -347,15 +347,12 @@ impl State {
         next
     }
 
-    // The state after a closing that is taken. Where nothing is held there is nothing to settle.
+    // The state after a closing that is taken.
     fn after_close(self, step: u8) -> Course
         ensures { λ r. ⌜ r ≡ courseOf (closeStep self step) ⌝ }
     {
         let lapsed = self.lapse_step(step);
-        if lapsed.has_held() {
-            return lapsed.settle_with(16);
-        }
-        lapsed.course()
+        lapsed.settle_with(16)
     }
 
     // Refuses the lowest held event, and settles.

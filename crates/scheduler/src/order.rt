@@ -1,6 +1,8 @@
 // The chosen order for an event. The events that have to be done with it are found first; an order takes always the lowest
 // of them that may come next, so nothing is tried twice (7.10, 7.11).
 use super::state::State;
+use checks::fate::done_as;
+use checks::fate::is_open;
 use members::blocked::blocked_in;
 use members::closed::close_set;
 use members::set::common;
@@ -12,8 +14,6 @@ use members::times::times_of;
 use members::view::View;
 use members::view::view_after;
 use members::view::view_of;
-use plan::fate::done_as;
-use plan::fate::is_open;
 ghost use mathlib.Core.Path.{_≡_};
 ghost use Prim.Native.Nat.{_+_, _≤_};
 ghost use Rattle.members.specs.Sets.{inSet, Shows};

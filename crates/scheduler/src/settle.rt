@@ -59,10 +59,10 @@ impl State {
         if lowest_of(view.held) == 16 {
             return next.course();
         }
+        let times = next.times();
         let plan = next.plan;
         let rules = plan.rules;
         let broken = next.broken;
-        let times = next.times();
         let count = plan.rule_count;
         let mut left: u8 = 16;
         while 0 < left {

@@ -1,7 +1,7 @@
 // The state of a plan under way, and its five writers.
+use checks::fate::done_as;
 use plan::fate::Fate;
 use plan::fate::Standing;
-use plan::fate::done_as;
 use plan::history::Entry;
 use plan::plan::Plan;
 ghost use mathlib.Core.Path.{_≡_};
@@ -22,12 +22,12 @@ pub struct State {
 
 // What calls change of a state: all but the plan. Calls give this, so that no plan is copied for each.
 pub struct Course {
-    pub minute: u32,
     pub standings: [Standing; 16],
     pub broken: [bool; 16],
     pub closed: [bool; 8],
     pub history: [Entry; 16],
     pub history_len: u8,
+    pub minute: u32,
 }
 
 // What settling an event writes.

@@ -1,7 +1,7 @@
 // The records of a sheet's bytes.
 use super::kind::WINDOW;
-use plan::bytes::byte_at;
-use plan::bytes::word_of;
+use checks::bytes::byte_at;
+use checks::bytes::word_of;
 use plan::record::Record;
 ghost use mathlib.Core.Path.{_≡_};
 ghost use Rattle.plan.specs.Records.{recordAt, wordAt};

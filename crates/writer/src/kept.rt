@@ -1,8 +1,8 @@
 // The sheet of a kept state, 384 bytes, which are only read.
 use super::write::write_sheet;
+use checks::answer::answer_number;
 use image::read::state_in;
 use image::test::is_image;
-use plan::answer::answer_number;
 ghost use mathlib.Core.Path.{_≡_};
 ghost use lib.ListN.{length};
 ghost use Rattle.writer.specs.Kept.{writeNumberOn, bufferOn, needOn};

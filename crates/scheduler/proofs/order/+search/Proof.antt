@@ -21,8 +21,8 @@ use Rattle.scheduler.proofs.CallSteps.{fate-in}
 use Rattle.scheduler.proofs.order.search.Reads as search′
 use Rattle.scheduler.proofs.order.search.Kinds as search-kinds
 use Rattle.scheduler.proofs.order.+search.Lts-search as search-lts
-use Rattle.plan.proofs.fate.done_as.Reads as done-as-reads
-use Rattle.plan.proofs.fate.is_open.Reads as is-open-reads
+use Rattle.checks.proofs.fate.done_as.Reads as done-as-reads
+use Rattle.checks.proofs.fate.is_open.Reads as is-open-reads
 use Rattle.scheduler.proofs.order.blank_order.Reads as blank-order-reads
 use Rattle.scheduler.proofs.state.State.settle_as.Reads as settle-as-reads
 use Rattle.scheduler.proofs.order.+search.{statement}

@@ -76,10 +76,10 @@ use Rattle.sheet.proofs.reader.new_reader as new-reader
 use Rattle.sheet.proofs.reader.new_reader.Symbol as new-reader-def
 use Rattle.sheet.proofs.reader.new_reader.Symbol.{name as #new-reader}
 use Rattle.sheet.proofs.reader.new_reader.Met as new-reader-thm
-use Rattle.plan.proofs.plan.empty_plan as empty-plan
-use Rattle.plan.proofs.plan.empty_plan.Symbol as empty-plan-def
-use Rattle.plan.proofs.plan.empty_plan.Symbol.{name as #empty-plan}
-use Rattle.plan.proofs.plan.empty_plan.Met as empty-plan-thm
+use Rattle.checks.proofs.plans.empty_plan as empty-plan
+use Rattle.checks.proofs.plans.empty_plan.Symbol as empty-plan-def
+use Rattle.checks.proofs.plans.empty_plan.Symbol.{name as #empty-plan}
+use Rattle.checks.proofs.plans.empty_plan.Met as empty-plan-thm
 use Rattle.sheet.proofs.reader.next_record as next-record
 use Rattle.sheet.proofs.reader.next_record.Symbol as next-record-def
 use Rattle.sheet.proofs.reader.next_record.Symbol.{name as #next-record}
@@ -675,7 +675,7 @@ read-sheet-spec 𝓤 H 𝓜 𝓖 𝓡 =
       of-new = cited 𝓤 H (Its 𝓤 H (𝓖 .A) new-reader.ended (new-reader.clauses 𝓤 H (𝓖 .A) (𝓜 .mem) (𝓡 .run))) 𝓜 𝓡 code.env
           #new-reader new-reader-def.routine code.calls-sheet·reader·new-reader (new-reader-thm.met 𝓤 H 𝓜 𝓖 𝓡);
       of-empty = cited 𝓤 H (Its 𝓤 H (𝓖 .A) empty-plan.ended (empty-plan.clauses 𝓤 H (𝓖 .A) (𝓜 .mem) (𝓡 .run))) 𝓜 𝓡 code.env
-          #empty-plan empty-plan-def.routine code.calls-plan·plan·empty-plan (empty-plan-thm.met 𝓤 H 𝓜 𝓖 𝓡);
+          #empty-plan empty-plan-def.routine code.calls-checks·plans·empty-plan (empty-plan-thm.met 𝓤 H 𝓜 𝓖 𝓡);
       of-next = cited 𝓤 H (Its 𝓤 H (𝓖 .A) next-record.ended (next-record.clauses 𝓤 H (𝓖 .A) (𝓜 .mem) (𝓡 .run))) 𝓜 𝓡 code.env
           #next-record next-record-def.routine code.calls-sheet·reader·next-record (next-record-thm.met 𝓤 H 𝓜 𝓖 𝓡);
       of-judge = cited 𝓤 H (Its 𝓤 H (𝓖 .A) judge.ended (judge.clauses 𝓤 H (𝓖 .A) (𝓜 .mem) (𝓡 .run))) 𝓜 𝓡 code.env

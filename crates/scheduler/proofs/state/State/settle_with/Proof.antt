@@ -21,7 +21,7 @@ use Rattle.scheduler.proofs.state.State.settle_with.Statement.{statemen
 use Rattle.scheduler.proofs.state.State.settle_with.Tie as tie
 
 abbrev Inv-loop : tie.InvT-loop
-Inv-loop event next₀ view₀ rules broken times count left₀ next view left =
+Inv-loop event next₀ view₀ times rules broken count left₀ next view left =
     (settle next₀ ≡ settleUpTo left next)
     × Shows (next .plan) (fateOf next) view
     × Timing next times
@@ -30,7 +30,7 @@ Inv-loop event next₀ view₀ rules broken times count left₀ next view left =
     × (ruleCount (next .plan) ≡ count)
 
 abbrev μ-loop : tie.MeasureT-loop
-μ-loop event next₀ view₀ rules broken times count left₀ next view left = left
+μ-loop event next₀ view₀ times rules broken count left₀ next view left = left
 
 element-set-from-next : tie.Need-element-set-from-next Inv-loop μ-loop
 element-set-from-next c = search needs
@@ -68,8 +68,8 @@ times-requires c κs = tt
 loop-holds : tie.Need-loop-holds Inv-loop μ-loop
 unfolding settle
 loop-holds c =
-    let seen = c .before .before .before .before .before .before in
-    (refl, seen .view .ensures, c .times .ensures, refl, refl, refl)
+    let timed = c .before .before .before in
+    (refl, timed .before .before .before .view .ensures, timed .times .ensures, refl, refl, refl)
 
 find-barred-requires : tie.Need-find-barred-requires Inv-loop μ-loop
 find-barred-requires c κs = tt
