@@ -68,7 +68,7 @@ module _ (x : Fate) (s : State) (d e : ℕ) (z : Sized s) where
 
 module _ (s : State) (d e : ℕ) (z : Sized s) where
   -- past the places every event is open
-  hold-either : (fateOf (hold s d) e ≡ Held) ⊎ (fateOf (hold s d) e ≡ fateOf s e)
+  pub hold-either : (fateOf (hold s d) e ≡ Held) ⊎ (fateOf (hold s d) e ≡ fateOf s e)
   hold-either = elim (ℕ-discrete e d) [
     | no ne ↦ inr (fate-hold-other s d e ne)
     | yes q ↦ elim (decLt d 16) [
@@ -220,7 +220,7 @@ not-itself s e z taken h = elim (either (isOpen (fateOf s e))) [
     differs-open q = clash refl (ap isHeld q)
 
 -- an event that somebody has handed in and that was not forced: held, or done
-abbrev heard : Fate → Bool
+abbrev pub heard : Fate → Bool
 heard x = isHeld x || sameFate x Done
 
 settle-heard : (x : Fate) (s : State) (d e : ℕ) → Sized s → heard x ≡ false → heard (fateOf (settleAs x s d) e) ≡ true → heard (fateOf s e) ≡ true
@@ -244,7 +244,7 @@ order-heard s (c ∷ o) z r e h =
     ]
 
 -- along a trail only the event handed in comes to be held or done
-trail-heard : {c : Call} {s t : State} → Trail c s t → Sized s → (e : ℕ) → heard (fateOf t e) ≡ true → (heard (fateOf s e) ≡ true) ⊎ (c ≡ Submit e)
+pub trail-heard : {c : Call} {s t : State} → Trail c s t → Sized s → (e : ℕ) → heard (fateOf t e) ≡ true → (heard (fateOf s e) ≡ true) ⊎ (c ≡ Submit e)
 trail-heard end z e h = inl h
 trail-heard (held {s} d p o r) z e h = elim (ℕ-discrete e d) [
   | yes q ↦ inr (p ∙ ap Submit (sym q))

@@ -21,4 +21,9 @@ pub mod Marks
 pub mod MarkedCalls
 pub mod Forcing
 pub mod Waiting
+pub mod Exact
+pub mod Refusals
+pub mod TrailFates
 pub mod Worthless
+pub mod WorthlessClauses
+pub mod WorthlessGrounds

@@ -20,7 +20,7 @@ use Rattle.scheduler.specs.Orders.{fateAtTurn, doOne, doAll, Runs}
 use Rattle.scheduler.specs.Calls.{refuses, does, AtRest, doAlone, submit, closeStep, finish, advanceTo}
 use Rattle.scheduler.specs.Answers.{callFault, accept, call}
 use Rattle.scheduler.specs.Lists.{scheduler, after}
-use Rattle.scheduler.specs.Demand.{seen, Observed, minuteAfter, observe, observeAll}
+use Rattle.scheduler.specs.Demand.{seen, Observed, minuteAfter, stateOf, observe, observeAll}
 use Rattle.scheduler.specs.Grounds.{Trail, end, held, ordered, alone, refused, shuts, lapsed, moves}
 use Rattle.scheduler.specs.Doing.{Acts}
 use Rattle.theory.specs.Windows.{InTime, minuteOf, Punctual, at, timedLines, AllInTime, KeepsTime, NoneOverdue, ForGood}
@@ -36,7 +36,7 @@ use Rattle.theory.proofs.Minutes.{minute-alone}
 use Rattle.theory.proofs.SheetPlans.{sheet-first, sheet-sound}
 use Rattle.theory.proofs.SoundPlans.{Sound}
 use Rattle.plan.proofs.Fates.{open-is}
-use Rattle.theory.proofs.Demands.{all-open, ListInvariant, step, at-begin, at-list, admitted-sized}
+use Rattle.theory.proofs.Demands.{all-open, ListInvariant, step, at-begin, at-list, admitted-sized, demand3}
 
 -- lines that are in time, one after another
 both-in-time : (p : Plan) (m : ℕ) (a b : List Entry) → InTime p m a → InTime p m b → InTime p m (a ++ b)
@@ -276,6 +276,11 @@ pub rest-first : (p : Plan) → AtRest (firstState p)
 rest-first p u (refuses e l) = clash (ap isHeld (l .is .0)) (ap isHeld (all-open p e))
 rest-first p u (does e o nb l f) = clash (ap isHeld (l .is .0)) (ap isHeld (all-open p e))
 
+-- the minute of the state that a list shows is the one that its accepted calls tell
+minute-shown : (p : Plan) (o : Observed) → (stateOf p o) .minute ≡ minuteAfter (o .calls)
+unfolding stateOf
+minute-shown p o = refl
+
 pub none-overdue : NoneOverdue scheduler
 unfolding barred
 none-overdue bytes s cs e read lt h =
@@ -284,7 +289,10 @@ none-overdue bytes s cs e read lt h =
     let same = k .invariant .listing .shape .same-plan in
     let r = rest-after s cs (admitted-sized bytes s read) (subst AtRest (sym (sheet-first bytes s read)) (rest-first (s .plan))) in
     let free = rest-held t (k .invariant .listing .shape .sized) r e (omega (arith, ap eventCount same)) h .0 in
-    ap (λ (p : Plan). overAt p (t .minute) e) (sym same) ∙ or-right (ruledOut t e) (tooLate t e) free
+    let told = ap (λ (u : State). u .minute) (demand3 bytes s cs read .claim .shown) in
+    ap (λ m. overAt (s .plan) m e) (sym (told ∙ minute-shown (s .plan) _))
+    ∙ ap (λ (p : Plan). overAt p (t .minute) e) (sym same)
+    ∙ or-right (ruledOut t e) (tooLate t e) free
 
 -- an event that is not done when its window is over
 record Expired (s : State) (e : ℕ) : Type 0 where

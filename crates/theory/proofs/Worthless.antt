@@ -40,19 +40,19 @@ use Rattle.scheduler.proofs.Settling.{settles-settle}
 use Rattle.scheduler.proofs.Doing.{settled-fixed, rest-held}
 
 -- sheets of one event that is rejectable and delayable, and of two with an order
-abbrev oneEvent : List ℕ
+abbrev pub oneEvent : List ℕ
 oneEvent = 1 ∷ 0 ∷ 6 ∷ 5 ∷ []
 
 abbrev twoInOrder : List ℕ
 twoInOrder = 1 ∷ 0 ∷ 6 ∷ 1 ∷ 0 ∷ 6 ∷ 2 ∷ 0 ∷ 1 ∷ 5 ∷ []
 
-abbrev one : State
+abbrev pub one : State
 one = firstState (addEvent emptyPlan 0 6)
 
 abbrev two : State
 two = firstState (addRule (addEvent (addEvent emptyPlan 0 6) 0 6) (Order 0 1))
 
-read-one : readSheet oneEvent ≡ admitted one
+pub read-one : readSheet oneEvent ≡ admitted one
 unfolding addEvent declare recordFault readFrom readPlan ending sheetPlan readSheet firstFault
 read-one = refl
 
@@ -62,7 +62,7 @@ unfolding addEvent addRule declare recordFault readFrom readPlan ending sheetPla
 read-two = refl
 
 -- what a scheduler's story shows; to unfold it is to unfold all that demand 3 computes
-shownBy : Scheduler → State → List Call → Observed
+unfoldable pub shownBy : Scheduler → State → List Call → Observed
 unfolding addEvent addRule after seen anyBelow allBelow thoseBelow among tabulate hold settleAs shut bars
     makesWait forbids allowedAt allowedIn overAt overIn ruledOut barred forbidden owing fatesIn ready mayDo someOrder hasViable hasEvent anyCall minuteAfter
     observedFate stateOf accepted startsDone doneAlone strains newlyRecorded observe observeAll broken
@@ -70,7 +70,7 @@ unfolding addEvent addRule after seen anyBelow allBelow thoseBelow among tabulat
 shownBy step s cs = observeAll (s .plan) nothingYet (seen step s cs)
 
 -- demand 3 on the sheet of one event
-on-one : (step : Scheduler)
+pub on-one : (step : Scheduler)
     → Keeps step
     → (cs : List Call)
     → Holds (one .plan) (shownBy step one cs) (after step one cs)
@@ -118,7 +118,7 @@ unfolding shownBy
 not-idle k = clash refl (ap (λ (s : State). isOpen (fateOf s 0)) (on-one idle k (Submit 0 ∷ []) .shown))
 
 -- the true scheduler; to unfold it is to unfold all that its calls compute
-scheduled : State → Call → State
+unfoldable pub scheduled : State → Call → State
 unfolding soundEvent firstOf lowest orderOf chosen doAll toRefuse toDo settleOnce settleUpTo settle submit
     firstFault declaredOnly sameFates listedAs coherentEvent soundWindow soundWindows coherent callFault accept call
 scheduled s c = call s c .state
@@ -206,7 +206,7 @@ unrefused-done s (e ∷ o) u =
       ];
     })
 
-unwindowed-one : (e : ℕ) → hasWindow (one .plan) e ≡ false
+pub unwindowed-one : (e : ℕ) → hasWindow (one .plan) e ≡ false
 unfolding addEvent
 unwindowed-one e = ap (λ (w : Window). not (eqb (w .until) 0)) (read-blank 16 blankWindow e)
 
@@ -251,7 +251,7 @@ not-refuser g =
     refl
 
 -- a closing that is taken acts
-acts-close : (s : State) (k : ℕ) → callFault s (Close k) ≡ none → Acts s (Close k)
+pub acts-close : (s : State) (k : ℕ) → callFault s (Close k) ≡ none → Acts s (Close k)
 acts-close s k h = record { taken = h; fresh = λ e q. absurd (let z : _≡_ {A = ℕ} 0 1 = cc in omega arith) }
 
 -- refuses a done event when it is handed in again
@@ -262,7 +262,7 @@ unmaker s Finish = scheduler s Finish
 unmaker s (Advance m) = scheduler s (Advance m)
 
 -- one event that can be refused and cannot wait, done
-abbrev oneDone : State
+abbrev pub oneDone : State
 oneDone = settleAs Done (firstState (addEvent emptyPlan 0 2)) 0
 
 pub not-unmaker : Grounded unmaker → ⊥
@@ -277,7 +277,7 @@ not-unmaker g =
     sized-lengths = record { standings-len = refl; broken-len = refl; closed-len = refl; history-len = refl }
 
 -- hands its state back untouched: a closing leaves an event held that could be done
-abbrev oneHeld : State
+abbrev pub oneHeld : State
 oneHeld = hold one 0
 
 pub not-doing-idle : Doing idle → ⊥
@@ -305,7 +305,7 @@ lenient s Finish = scheduler s Finish
 lenient s (Advance m) = scheduler s (Advance m)
 
 -- event 0, held, needs event 1
-abbrev needHeld : State
+abbrev pub needHeld : State
 needHeld = hold (firstState (addRule (addEvent (addEvent emptyPlan 0 6) 1 6) (Need 0 1))) 0
 
 pub not-doing-lenient : Doing lenient → ⊥
@@ -317,13 +317,13 @@ not-doing-lenient d =
     clash refl (rest-held t after-sized (d needHeld (Close 1) sized .rests (acts-close needHeld 1 refl)) 0 (omega arith) refl .0)
 
 -- does what it should and marks nothing: in case D event 1 is done, and nobody has handed it in
-abbrev needForced : List ℕ
+abbrev pub needForced : List ℕ
 needForced = 1 ∷ 0 ∷ 1 ∷ 1 ∷ 1 ∷ 1 ∷ 3 ∷ 0 ∷ 1 ∷ 5 ∷ []
 
-abbrev needFirst : State
+abbrev pub needFirst : State
 needFirst = firstState (addRule (addEvent (addEvent emptyPlan 0 1) 1 1) (Need 0 1))
 
-read-forced : readSheet needForced ≡ admitted needFirst
+pub read-forced : readSheet needForced ≡ admitted needFirst
 unfolding addEvent addRule declare recordFault readFrom readPlan ending sheetPlan readSheet firstFault named
     enforceable ruleOf
 read-forced = refl
@@ -348,13 +348,13 @@ not-forcer f =
     omega arith
 
 -- gives done to a trigger that has to wait: the consent form's sheet, on which 1 cannot be stopped
-abbrev consentForm : List ℕ
+abbrev pub consentForm : List ℕ
 consentForm = 1 ∷ 0 ∷ 6 ∷ 1 ∷ 1 ∷ 0 ∷ 1 ∷ 2 ∷ 6 ∷ 4 ∷ 0 ∷ 1 ∷ 2 ∷ 5 ∷ []
 
-abbrev consentFirst : State
+abbrev pub consentFirst : State
 consentFirst = firstState (addRule (addEvent (addEvent (addEvent emptyPlan 0 6) 1 0) 2 6) (Conditional 0 1 2))
 
-read-consent : readSheet consentForm ≡ admitted consentFirst
+pub read-consent : readSheet consentForm ≡ admitted consentFirst
 unfolding addEvent addRule declare recordFault readFrom readPlan ending sheetPlan readSheet firstFault named
     enforceable ruleOf
 read-consent = refl
@@ -378,13 +378,13 @@ unfolding shownBy unstoppable reckoned triggered owes holds doneIn anyDone order
 not-doer-waits k = clash refl (k consentForm consentFirst (Submit 0 ∷ Submit 1 ∷ []) read-consent .claim .kept 0 (omega arith) refl)
 
 -- S-7: one event in a window from 1 until 3
-abbrev windowSheet : List ℕ
+abbrev pub windowSheet : List ℕ
 windowSheet = 1 ∷ 0 ∷ 6 ∷ 7 ∷ 0 ∷ 1 ∷ 0 ∷ 0 ∷ 0 ∷ 3 ∷ 0 ∷ 0 ∷ 0 ∷ 5 ∷ []
 
-abbrev windowFirst : State
+abbrev pub windowFirst : State
 windowFirst = firstState (addWindow (addEvent emptyPlan 0 6) 0 1 3)
 
-read-window : readSheet windowSheet ≡ admitted windowFirst
+pub read-window : readSheet windowSheet ≡ admitted windowFirst
 unfolding addEvent addWindow badWindow declare recordFault readFrom readPlan ending sheetPlan readSheet firstFault
 read-window = refl
 
@@ -424,16 +424,16 @@ unfolding shownBy scheduled addWindow setMinute
 not-sluggish-overdue k = clash refl (k windowSheet windowFirst (Submit 0 ∷ Advance 3 ∷ []) 0 read-window (omega arith) refl)
 
 -- after a move to minute 1 the event is held, and has a viable order
-abbrev windowHeld : State
+abbrev pub windowHeld : State
 windowHeld = hold windowFirst 0
 
-abbrev windowOpen : State
+abbrev pub windowOpen : State
 windowOpen = setMinute windowHeld 1
 
-held-sized : Sized windowHeld
+pub held-sized : Sized windowHeld
 held-sized = sized-hold windowFirst 0 (first-sized (windowFirst .plan))
 
-restless : AtRest windowOpen → ⊥
+pub restless : AtRest windowOpen → ⊥
 unfolding shownBy scheduled addWindow setMinute
 restless rests =
     rest-held windowOpen (sized-minute windowHeld 1 held-sized) rests 0 (omega arith) refl .1
@@ -476,7 +476,7 @@ topmost s (Close k) = scheduler s (Close k)
 topmost s Finish = scheduler s Finish
 topmost s (Advance m) = settleAs Done (settleAs Done (setMinute s m) 1) 0
 
-abbrev twoHeld : State
+abbrev pub twoHeld : State
 twoHeld = hold (hold (firstState (addWindow (addWindow (addEvent (addEvent emptyPlan 0 6) 0 6) 0 1 3) 1 1 3)) 0) 1
 
 pub not-topmost : OnlySettles topmost → ⊥

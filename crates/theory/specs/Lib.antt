@@ -3,3 +3,4 @@ pub mod HeldFirst
 pub mod Marks
 pub mod Waiting
 pub mod Windows
+pub mod Exact

@@ -49,8 +49,10 @@ forget s = record {
 abbrev pub forgetReply : Reply → Reply
 forgetReply r = record { answer = forgetAnswer (r .answer); state = forget (r .state) }
 
--- the marks of a state are right: whether the history lists a declared event with its fate, and no other, is the same without
--- them. They are wrong where a line says done of a forced event, or the other way round (11.18)
+-- the marks of a state are right: whether the history lists a declared event with its fate, and no other, is the same
+-- without them. They are wrong where a line says done of a forced event, or the other way round (11.18). Shown right by
+-- `right-alike` (then marks decide nothing), `coherent-right` (every coherent state has right marks) and `marks-wrong` (a
+-- state without right marks, where they do decide), all in proofs/MarkedCalls
 abbrev pub MarksRight : State → Type 0
 MarksRight s = (e : ℕ)
     → e < eventCount (s .plan)
@@ -76,8 +78,9 @@ pub record ListAlike (s : State) (cs : List Call) : Type 0 where
   pub ends : forget (after scheduler s cs) ≡ after unmarked s cs
   pub next : (c : Call) → Alike (after scheduler s cs) c
 
--- how call c forces e, which is open before it: at some state of the call, in the chosen order of an event held there, e is
--- open when its turn comes, and it is forcible (12.6)
+-- how call c forces e, which is open before it: at some state of the call, in the chosen order of an event held there, e
+-- is open when its turn comes, and it is forcible (12.6). Shown right by `forces` (proofs/Forcing) and by what it turns
+-- away: `not-forcer` and `not-unmarked` (proofs/Worthless)
 pub record ForcedBy (c : Call) (s : State) (e : ℕ) : Type 0 where
   pub fresh : fateOf s e ≡ Open
   pub may : forcible (s .plan) e ≡ true

@@ -66,13 +66,14 @@ KeepsTime step = (bytes : List ℕ) (s : State) (cs : List Call)
     → readSheet bytes ≡ admitted s
     → Within (s .plan) (seen step s cs)
 
--- of every admitted sheet and every list: no event is held at or after the end of its window (11.24)
+-- of every admitted sheet and every list: no event is held at or after the end of its window, at the minute that the
+-- accepted calls tell (11.24)
 abbrev pub NoneOverdue : Scheduler → Type 0
 NoneOverdue step = (bytes : List ℕ) (s : State) (cs : List Call) (e : ℕ)
     → readSheet bytes ≡ admitted s
     → e < eventCount (s .plan)
     → fateOf (after step s cs) e ≡ Held
-    → overAt (s .plan) ((after step s cs) .minute) e ≡ false
+    → overAt (s .plan) (minuteAfter (observeAll (s .plan) nothingYet (seen step s cs) .calls)) e ≡ false
 
 -- an event that is not done when its window is over never will be: of every state that code can hold and every call
 -- (11.25)
