@@ -30,7 +30,8 @@ abbrev pub numberAt : ℕ → List ℕ → ℕ → ℕ
 numberAt k b at = elim (eqb k 7) [ true ↦ wordAt b at | false ↦ 0 ]
 
 -- the record at an offset: its kind, the three bytes after it, and the two numbers after the first of these; bytes past
--- the end are 0 (3.1, 3.5)
+-- the end are 0 (3.1, 3.5). No such 0 is ever part of what is declared: a record that is not turned down lies whole
+-- within the sheet (`faultless` in FaultlessRecords, field `whole`; the rows on number 1 in `judged`)
 abbrev pub recordAt : List ℕ → ℕ → Record
 recordAt b at = record {
   kind = getD b at 0;

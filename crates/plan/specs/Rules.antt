@@ -52,12 +52,13 @@ soundWindows p = allBelow 16 (soundWindow p)
 unfoldable pub unstoppable : Plan → Fates → ℕ → Bool
 unstoppable p f t = isOpen (f t) && not (rejectable p t) && not (delayable p t)
 
--- to a conditional that calls for c its trigger t is as good as done: it is; or nothing can stop it, and c could not be
--- forced when it comes (6.9)
+-- to a conditional with this c the trigger t counts as done: it is done; or it is open and unstoppable, and c is not
+-- forcible (6.9). Shown right by the rows `stopping`; `plain` in theory/Waiting says that nothing else counts
 unfoldable pub reckoned : Plan → Fates → ℕ → ℕ → Bool
 reckoned p f c t = isDone (f t) || (unstoppable p f t && not (forcible p c))
 
--- one of a and b is done, and the other reckoned with (6.7, 6.10)
+-- one of a and b is done, and the other counts as done (6.7, 6.10). Shown right by the rows `owing` and `awaiting`, and
+-- by `plain`: where neither trigger is unstoppable, both have to be done
 unfoldable pub triggered : Plan → Fates → ℕ → ℕ → ℕ → Bool
 triggered p f c a b = (isDone (f a) && reckoned p f c b) || (isDone (f b) && reckoned p f c a)
 

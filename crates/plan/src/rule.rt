@@ -1,5 +1,4 @@
-// Rules, and which a sheet takes. Tests of a single rule take the arrays that they read, and not the whole plan: they say
-// what holds of every plan with these events. What a rule forbids and owes is asked of sets, in `members`.
+// Rules. The tests of a single rule are in `checks`; what a rule forbids and owes is asked of sets, in `members`.
 
 // Order a, b: a before b. Need a, b: a only if b. Conditional a, b, c: if a and b, then c.
 pub enum Rule {

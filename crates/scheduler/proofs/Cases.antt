@@ -23,7 +23,7 @@ use Rattle.plan.specs.Records.{ruleOf, addEvent, addRule, addWindow, addEvents,
 use Rattle.plan.specs.Sheets.{sheetPlan, ending, readFrom, readPlan}
 use Rattle.scheduler.specs.Sheet.{readSheet}
 use Rattle.plan.specs.Calls.{decodeUpTo, firstCall, firstCall, decode}
-use Rattle.scheduler.specs.Runner.{runOn, runOf, digits, decimal, historyLines, report}
+use Rattle.scheduler.specs.Runner.{runOn, runOf, heldCount, brokenCount, digits, decimal, historyLines, report}
 use Rattle.scheduler.specs.Lists.{scheduler, after, turnedDown}
 
 -- what a sheet and a list of calls come to: the sheet's fault and its offset, or the answers, the history, and for
@@ -64,10 +64,17 @@ abbrev pub sheetF : List ℕ
 sheetF = 1 ∷ 0 ∷ 1 ∷ 1 ∷ 1 ∷ 6 ∷ 3 ∷ 0 ∷ 1 ∷ 5 ∷ []
 
 abbrev pub sheetG : List ℕ
-sheetG = 1 ∷ 0 ∷ 6 ∷ 1 ∷ 0 ∷ 0 ∷ 2 ∷ 0 ∷ 1 ∷ 5 ∷ []
+sheetG = 1 ∷ 0 ∷ 6 ∷ 1 ∷ 1 ∷ 0 ∷ 2 ∷ 0 ∷ 1 ∷ 5 ∷ []
 
 abbrev pub sheetL : List ℕ
 sheetL = 1 ∷ 0 ∷ 6 ∷ 1 ∷ 1 ∷ 6 ∷ 1 ∷ 2 ∷ 6 ∷ 4 ∷ 0 ∷ 1 ∷ 2 ∷ 5 ∷ []
+
+-- L's, where 1 is rejectable and cannot wait; and 0 that needs 1, which can be forced
+abbrev pub sheetM : List ℕ
+sheetM = 1 ∷ 0 ∷ 6 ∷ 1 ∷ 1 ∷ 2 ∷ 1 ∷ 2 ∷ 6 ∷ 4 ∷ 0 ∷ 1 ∷ 2 ∷ 5 ∷ []
+
+abbrev pub sheetN : List ℕ
+sheetN = 1 ∷ 0 ∷ 6 ∷ 1 ∷ 1 ∷ 7 ∷ 3 ∷ 0 ∷ 1 ∷ 5 ∷ []
 
 -- S-6: a trigger that nothing can stop is 1, the other 0, and what they call for 2; and the same with 1 named first
 abbrev pub sheetW : List ℕ
@@ -449,7 +456,7 @@ brought =
     ∷ (settleAs Forced (firstOn sheetG) 1, Submit 1 ∷ Submit 0 ∷ [], Is Forced ∷ Is Refused ∷ [])
     ∷ (settleAs Forced (firstOn sheetD) 0, Submit 1 ∷ [], TurnedDown Incoherent ∷ [])
     ∷ (settleAs Forced (settleAs Forced (firstOn sheetD) 0) 1, Submit 1 ∷ [], Is Forced ∷ [])
-    -- 12, S-7: a window on an event that is not declared or not delayable, one that ends before it begins, a from
+    -- 12, S-7: a window on an event that is not declared or not delayable, one with no minute in it, a from
     -- without an until; number 12 goes before number 16. A held event past its window is no fault: the next settling
     -- refuses it
     ∷ (firstState (addWindow (addEvent emptyPlan 0 6) 0 1 2), Submit 0 ∷ [], Is Held ∷ [])
@@ -481,6 +488,16 @@ brought =
     ∷ (settleAs Refused (settleAs Done (firstOn sheetW) 0) 2, Submit 1 ∷ Finish ∷ [], Is Done ∷ TurnedDown NotClosed ∷ [])
     -- a closed step without events, and a mark past the rules, are not looked at
     ∷ (breakRule (shut (firstOn sheetD) 7) 15, Submit 0 ∷ [], Is Done ∷ [])
+    -- 9 goes before 10: a closed step without events
+    ∷ (shut (firstOn sheetD) 7, Close 7 ∷ [], TurnedDown Unknown ∷ [])
+    -- 12: held and rejectable, but not delayable
+    ∷ (hold (firstState (addEvent emptyPlan 0 2)) 0, Submit 0 ∷ [], TurnedDown Incoherent ∷ [])
+    -- a closing lets events lapse before it settles: 0 is held and needs 1, which could be forced before the closing
+    ∷ (hold (firstOn sheetN) 0, Close 1 ∷ Submit 0 ∷ [], Made ∷ Is Refused ∷ [])
+    -- a hand-in holds its event before anything is settled. 2 has lapsed, so that only one of 0 and 1 can be done. The one
+    -- handed in cannot wait and has its own order first; it can wait, and is the lower
+    ∷ (hold (settleAs Lapsed (firstOn sheetM) 2) 0, Submit 1 ∷ Submit 0 ∷ [], Is Done ∷ Is Refused ∷ [])
+    ∷ (hold (settleAs Lapsed (firstOn sheetL) 2) 1, Submit 0 ∷ Submit 1 ∷ [], Is Done ∷ Is Refused ∷ [])
     -- 12 goes before 9, 10 and 11
     ∷ (hold (firstOn sheetD) 0, Submit 2 ∷ [], TurnedDown Incoherent ∷ [])
     ∷ (hold (firstOn sheetD) 0, Close 2 ∷ [], TurnedDown Incoherent ∷ [])
@@ -555,11 +572,27 @@ reports =
     ∷ (sixteenEvents ++ (5 ∷ []), times 9 (16 ∷ 16 ∷ []) ++ (16 ∷ 12 ∷ 16 ∷ []), reportWide)
     ∷ []
 
--- the joint proof: every row of the three lists
+-- a state that a caller brings, and the counts of its report: events held, rules recorded as broken. What stands past the
+-- events and past the rules is not counted
+abbrev pub Counted : Type 0
+Counted = State × ℕ × ℕ
+
+abbrev pub counts : List Counted
+counts =
+    (breakRule (firstOn sheetD) 0, 0, 1)
+    ∷ (breakRule (firstOn sheetD) 1, 0, 0)
+    ∷ (breakRule (firstOn sheetD) 15, 0, 0)
+    ∷ (hold (hold (firstOn sheetA) 1) 2, 1, 0)
+    ∷ (hold (firstOn sheetA) 15, 0, 0)
+    ∷ []
+
+-- the joint proof: every row of the four lists
 pub marked :
     (map (λ (c : Case). given (c .0) (c .1)) cases ≡ map (λ (c : Case). c .2) cases)
     × (map (λ (c : Brought). answersOf (c .0) (c .1)) brought ≡ map (λ (c : Brought). c .2) brought)
     × (map (λ (c : Report). report (runOf (c .0) (c .1))) reports ≡ map (λ (c : Report). c .2) reports)
+    × (map (λ (c : Counted). heldCount (c .0)) counts ≡ map (λ (c : Counted). c .1) counts)
+    × (map (λ (c : Counted). brokenCount (c .0)) counts ≡ map (λ (c : Counted). c .2) counts)
 unfolding given answersOf tabulate anyBelow allBelow firstOf lowest hold settleAs shut breakRule named enforceable
     soundEvent soundRule unstoppable reckoned triggered bars makesWait forbids owes badWindow soundWindow soundWindows allowedAt allowedIn overAt overIn ruledOut barred forbidden owing fatesIn anyDone doneIn doneInTurn holds
     ready mayDo doAll orderOf chosen toRefuse toDo settleOnce settleUpTo settle strains recordBroken doAlone decide
@@ -567,7 +600,7 @@ unfolding given answersOf tabulate anyBelow allBelow firstOf lowest hold settleA
     coherent hasEvent callFault accept call ruleOf addEvent addRule addWindow addEvents declare recordFault ending readFrom
     readPlan sheetPlan readSheet after countBelow firstCall decodeUpTo decode turnedDown runOn runOf digits decimal
     historyLines report
-marked = (refl, refl, refl)
+marked = (refl, refl, refl, refl, refl)
 
 -- 0, 7, 10, 65536
 pub decimals :

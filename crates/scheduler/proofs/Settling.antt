@@ -42,7 +42,7 @@ barred-tested s = record {
 }
 
 -- two lowest events of which P holds are one
-lowest-one : (s : State) (P : ℕ → Type 0) (d e : ℕ) → Lowest s P d → Lowest s P e → d ≡ e
+pub lowest-one : (s : State) (P : ℕ → Type 0) (d e : ℕ) → Lowest s P d → Lowest s P e → d ≡ e
 lowest-one s P d e l m = elim (decLt d e) [
   | yes lt ↦ absurd (m .none-below d lt (l .is))
   | no ge ↦ elim (decLt e d) [

@@ -77,7 +77,7 @@ waitsAs true = Held
 waitsAs false = Open
 
 -- an event's fate as the history and the accepted calls show it: its line's, else held if it was handed in, else open
--- (11.6)
+-- (11.6). A line that said open or held would not settle its event; `coherent-end` says that no history has one
 unfoldable pub observedFate : Observed → ℕ → Fate
 observedFate o e = elim (fatesIn (o .history) e) [ x ∷ xs ↦ x | [] ↦ waitsAs (wasSubmitted o e) ]
 
@@ -106,14 +106,16 @@ startsDone [] e = false
 startsDone (l ∷ ls) e = eqb (l .event) e && isDone (l .fate)
 
 -- the hand-in of e after which the history is h did e alone: e was open, had no viable order, and its being done is
--- the first new line (11.7)
+-- the first new line (11.7). Shown right by `shown` of demand 3: the calls record exactly what is read off so. Without
+-- the test for an order the scheduler of `not-orderless-alone` (theory/WorthlessClauses) would pass
 unfoldable pub doneAlone : Plan → Observed → ℕ → List Entry → Bool
 doneAlone p o e h =
     isOpen (observedFate o e)
     && startsDone (drop (length (o .history)) h) e
     && not (hasViable (hold (stateOf p o) e) e)
 
--- the rules that a hand-in which did its event alone records as broken: those that this strains (11.8)
+-- the rules that a hand-in which did its event alone records as broken: those that this breaks (11.8). Shown right by
+-- `shown` of demand 3, and by case E, where a rule is recorded
 unfoldable pub newlyRecorded : Plan → Observed → ℕ → List Entry → List ℕ
 newlyRecorded p o e h = elim (doneAlone p o e h) [
   | true ↦ thoseBelow (ruleCount p) (strains (hold (stateOf p o) e) e)

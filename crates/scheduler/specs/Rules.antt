@@ -27,7 +27,8 @@ unfoldable pub owing : State → Bool
 owing s =
     anyBelow (ruleCount (s .plan)) (λ i. stands s i && owes (s .plan) (fateOf s) (ruleAt (s .plan) i))
 
--- rule i, if it stands, is against doing e in s, or owes right after it (9.5, 11.8)
+-- rule i stands, and doing e in s breaks it: it forbids e there, or owes right after e is done (9.5, 11.8). Shown right
+-- by case E and the rows on lone events in proofs/Cases, and by demand 3: no protected rule is ever recorded so
 unfoldable pub strains : State → ℕ → ℕ → Bool
 strains s e i =
     stands s i

@@ -60,8 +60,8 @@ hold s e = record {
   minute = s .minute;
 }
 
--- an event is settled: its fate is written and its line added to the history. The line count stops at 16 (it is never
--- met) (5.7)
+-- an event is settled: its fate is written and its line added to the history (5.7). The line count stops at 16. That
+-- stop is never met: `len-then` in theory/HistoryInvariant, settling an unsettled event adds exactly one line
 unfoldable pub settleAs : Fate → State → ℕ → State
 settleAs x s e = record {
   plan = s .plan;

@@ -51,16 +51,12 @@ impl State {
         blank_order(false, 0)
     }
 
-    // The order of the members. Held events first (7.9): an order in which no open event is forced is made of held members
-    // alone, and there is one only where all are held; else the others are forced.
+    // The order of the members, which is the chosen one (7.11). Looking at orders of held events before the others finds the
+    // same (7.9, `held-first`), so nothing is looked at twice.
     pub(crate) fn find_among(self, view: View, members: u16) -> Found
         requires { ⌜ Shows (self .plan) (fateOf self) view ⌝ }
         ensures { λ r. ⌜ r ≡ foundFrom self 0 (stepwise (self .plan) (stands self) 6 (fateOf self) (inSet members)) ⌝ }
     {
-        let held = common(members, view.held);
-        if held == members {
-            return search(self, view, held, 0, 6);
-        }
         search(self, view, members, 0, 6)
     }
 
