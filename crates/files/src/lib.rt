@@ -6,6 +6,7 @@ ghost use Prim.Native.Nat.{_+_, _≤_, min};
 ghost use mathlib.Core.Path.{_≡_};
 ghost use lib.ListN.{length};
 ghost use Rattle.io.specs.Counts.{Counts};
+ghost use Rattle.scheduler.specs.Runner.{runOf, report};
 ghost use Rattle.files.specs.Status.{Status};
 
 // How many bytes of a file count.
@@ -25,7 +26,6 @@ pub extern "C" fn sinewhopa_files() -> i32
     // One byte more than the limit shows whether a file goes on past it.
     let mut sheet = [0u8; 65537];
     let mut calls = [0u8; 65537];
-    let mut out = [0u8; 320];
     let sheet_read = read_file(b"sheet.bin", &mut sheet);
     if !sheet_read.is_read {
         return 1;
@@ -36,9 +36,17 @@ pub extern "C" fn sinewhopa_files() -> i32
     }
     let sheet_len = sheet_read.len;
     let calls_len = calls_read.len;
-    let outcome = lists::run::run(&sheet[..sheet_len], &calls[..calls_len]);
+    print_run(&sheet[..sheet_len], &calls[..calls_len])
+}
+
+// Runs the calls on the sheet and prints the report: 0, or 1 where the output fails.
+fn print_run(sheet: &[u8], calls: &[u8]) -> i32
+    ensures { λ r. ⌜ Status r ⌝ }
+{
+    let mut out = [0u8; 320];
+    let outcome = lists::run::run(sheet, calls);
     let n = report::write_report(outcome, &mut out);
-    print_report(&out[..n])
+    print_report(sheet, calls, &out[..n])
 }
 
 // The start of a file, at most LIMIT bytes. A missing file counts as empty; of one that goes on past the limit, and of
@@ -126,11 +134,13 @@ fn cut(path: &[u8], len: usize) -> usize
     LIMIT
 }
 
-// Writes the report: 0, or 1 where that fails, be it only as the output is closed; standard error then says so.
-fn print_report(report: &[u8]) -> i32
+// Writes the report of the sheet and the calls, and no other text: 0, or 1 where that fails, be it only as the output is
+// closed; standard error then says so.
+fn print_report(sheet: &[u8], calls: &[u8], text: &[u8]) -> i32
+    requires { ⌜ now text ≡ report (runOf (now sheet) (now calls)) ⌝ }
     ensures { λ r. ⌜ Status r ⌝ }
 {
-    if !io::write_all(STDOUT_FILENO, report) {
+    if !io::write_all(STDOUT_FILENO, text) {
         os::fail(b"standard output");
         return 1;
     }

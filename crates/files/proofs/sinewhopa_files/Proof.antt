@@ -1,6 +1,4 @@
--- `sinewhopa_files` is safe and ends: the lengths lie within the buffers, and the report fits its own.
-use native.Mathlib.Omega.{arith}
-use Rattle.io.proofs.Counting.{front}
+-- `sinewhopa_files` is safe and ends: the lengths lie within the buffers.
 use borrow.Author.Needs.{needs}
 use Rattle.files.proofs.sinewhopa_files.Statement.{statement}
 use Rattle.files.proofs.sinewhopa_files.Tie as tie
@@ -32,32 +30,17 @@ returns-2 c = search needs
 array-share-prefix-sheet : tie.Need-array-share-prefix-sheet
 array-share-prefix-sheet c = search needs
 
-slice-aggregate-run : tie.Need-slice-aggregate-run
-slice-aggregate-run c = search needs
+slice-aggregate-print-run : tie.Need-slice-aggregate-print-run
+slice-aggregate-print-run c = search needs
 
 array-share-prefix-calls : tie.Need-array-share-prefix-calls
 array-share-prefix-calls c = search needs
 
-slice-aggregate-run-2 : tie.Need-slice-aggregate-run-2
-slice-aggregate-run-2 c = search needs
+slice-aggregate-print-run-2 : tie.Need-slice-aggregate-print-run-2
+slice-aggregate-print-run-2 c = search needs
 
-run-requires : tie.Need-run-requires
-run-requires c κs = search needs
-
-slice-aggregate-write-report : tie.Need-slice-aggregate-write-report
-slice-aggregate-write-report c = search needs
-
-write-report-requires : tie.Need-write-report-requires
-write-report-requires c κs = search needs
-
-array-share-prefix-out : tie.Need-array-share-prefix-out
-array-share-prefix-out c = search needs
-
-slice-aggregate-print-report : tie.Need-slice-aggregate-print-report
-slice-aggregate-print-report c = front _ _ (omega (arith, c .before .before .write-report .kept .1 .0, c .before .before .write-report .ensures .1 .1))
-
-print-report-requires : tie.Need-print-report-requires
-print-report-requires c κs = search needs
+print-run-requires : tie.Need-print-run-requires
+print-run-requires c κs = search needs
 
 returns-3 : tie.Need-returns-3
 returns-3 c = search needs
@@ -75,13 +58,8 @@ sinewhopa-files-spec =
     read-file-requires-2
     returns-2
     array-share-prefix-sheet
-    slice-aggregate-run
+    slice-aggregate-print-run
     array-share-prefix-calls
-    slice-aggregate-run-2
-    run-requires
-    slice-aggregate-write-report
-    write-report-requires
-    array-share-prefix-out
-    slice-aggregate-print-report
-    print-report-requires
+    slice-aggregate-print-run-2
+    print-run-requires
     returns-3)
