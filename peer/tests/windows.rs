@@ -365,7 +365,7 @@ const LAX: [fn(&Image) -> u8; 5] = [
     |image| raw::check(&cleared(image, |_, _, [_, until]| until == 0)),
 ];
 
-/// Lax checks are found out, and so is one that minds an event done outside its window.
+/// Lax checks are found out, and so is one that minds an event held past its window.
 #[test]
 fn the_comparison_of_bad_windows_can_fail() {
     let strict: fn(&Image) -> u8 = |image| {
@@ -498,7 +498,7 @@ const ROWS: [Row; 8] = [
     (ONE, &[Submit(0), Advance(5), Advance(4)], &[2], 5),
     // 0 needs 1, which is forced from minute 5 on.
     (FORCES, &[Submit(0), Advance(4), Advance(5)], &[2, 5], 5),
-    // Past its window it can't be forced; 0 waits until the winding up.
+    // Past its window it can't be forced; 0 waits until step 1 is closed.
     (
         FORCES,
         &[Submit(0), Advance(8), CloseStep(0), CloseStep(1)],

@@ -132,7 +132,7 @@ pub struct Tally {
     pub images: usize,
     /// Turned down and passed, by what was put.
     pub puts: [[usize; 2]; PUTS.len()],
-    /// Passed with a done or forced event outside its window, and with a held one past it.
+    /// Passed with a done event outside its window, and with a held one past it.
     pub done_outside: usize,
     pub held_past: usize,
     /// Damaged anywhere: turned down and passed.
