@@ -47,13 +47,13 @@ fn line(call: Call, answer: Answer) -> String {
 /// The whole morning, told to `out`.
 pub fn run(mut out: impl Write) -> Result<(), Box<dyn Error>> {
     let mut state = State::open(&SHEET)?;
-    let before = state.history().count();
+    let before = state.line_count();
     let answers = state.submit_all(&REPLIES)?;
     for (call, answer) in REPLIES.into_iter().zip(answers) {
         writeln!(out, "{}", line(call, answer))?;
     }
     let told = |(event, fate): (u8, Fate)| format!("{event} {fate}");
-    let settled: Vec<String> = state.history().skip(before).map(told).collect();
+    let settled: Vec<String> = state.settled_since(before).map(told).collect();
     writeln!(out, "settled: {}", settled.join(", "))?;
 
     let many = [Call::Submit(2); LONGEST_BATCH + 1];

@@ -75,10 +75,10 @@ fn open_plan(name: &str, out: &mut impl Write) -> Result<State> {
 /// What a host does whenever its clock moves. It is an error where the history has then
 /// not so many new lines.
 fn clock_moves(state: &mut State, minute: u32, settles: usize, out: &mut impl Write) -> Result<()> {
-    let before = state.history().count();
+    let before = state.line_count();
     state.advance(minute)?;
-    let new = state.history().skip(before);
-    let lines: Vec<String> = new
+    let lines: Vec<String> = state
+        .settled_since(before)
         .map(|(event, fate)| format!("{} {fate}", name(event)))
         .collect();
     let told = match lines.is_empty() {

@@ -6,7 +6,7 @@
 //!
 //!     cargo run --release --offline --example forced
 
-use sinewhopa::{Call, Fate, Preview, State};
+use sinewhopa::{Call, CallFault, Fate, Preview, State};
 use std::error::Error;
 use std::fs;
 use std::io::{self, Write};
@@ -28,9 +28,6 @@ const CREMATION: u8 = 0;
 const CERTIFICATE: u8 = 1;
 const NOTICE: u8 = 2;
 
-/// Where a state's bytes have the fates of the history's lines.
-const LINE_FATE: usize = 156;
-
 fn name(event: u8) -> &'static str {
     let name = NAMES.get(usize::from(event));
     name.copied().unwrap_or("no such event")
@@ -46,10 +43,10 @@ fn ask_and_hand_in(
     event: u8,
     out: &mut impl Write,
 ) -> Result<(), Box<dyn Error>> {
-    let before = state.history().count();
+    let before = state.line_count();
     let asked = state.preview(event)?;
     let answer = state.submit(event)?;
-    let new: Vec<(u8, Fate)> = state.history().skip(before).collect();
+    let new: Vec<(u8, Fate)> = state.settled_since(before).collect();
     let (settled, done, forced) = (asked.settled(), asked.done, asked.forced);
     let event = name(event);
     writeln!(
@@ -76,11 +73,9 @@ fn counted(new: &[(u8, Fate)]) -> Preview {
 
 /// What is to be chased up: the events that have come about without an office's report.
 fn show_forced(state: &State, out: &mut impl Write) -> io::Result<()> {
-    for event in 0..state.event_count() {
-        if state.fate(event) == Some(Fate::Forced) {
-            let event = name(event);
-            writeln!(out, "chase up {event}: forced, no office has reported it")?;
-        }
+    for event in state.events().filter(|event| event.fate == Fate::Forced) {
+        let event = name(event.number);
+        writeln!(out, "chase up {event}: forced, no office has reported it")?;
     }
     Ok(())
 }
@@ -126,14 +121,32 @@ fn try_batch(
     Ok(())
 }
 
-/// Somebody makes the event's line say done. It is an error where that is a state still.
+/// What is answered to the state's bytes where one of them, which says forced, is made to say
+/// done: each such byte in turn.
+fn hidden(state: &State) -> Vec<Result<State, CallFault>> {
+    let stored = state.as_bytes();
+    let places = (0..stored.len()).filter(|place| stored[*place] == Fate::Forced.number());
+    let changed = places.map(|place| {
+        let mut bytes = *stored;
+        bytes[place] = Fate::Done.number();
+        State::from_bytes(&bytes)
+    });
+    changed.collect()
+}
+
+/// Somebody hides that the event was forced, and tries its line and every other byte that says
+/// so. It is an error where the event was not forced, where these bytes are not a fate and a
+/// line of each forced event, or where one of the answers is a state.
 fn try_hiding(state: &State, event: u8, out: &mut impl Write) -> Result<(), Box<dyn Error>> {
-    let place = state.history().position(|line| line.0 == event);
-    let mut bytes = *state.as_bytes();
-    bytes[LINE_FATE + place.ok_or("no such line")?] = Fate::Done.number();
-    let fault = State::from_bytes(&bytes).err();
-    let fault = fault.ok_or("a line that hides what was forced is taken")?;
-    let (event, number) = (name(event), fault.number());
+    let answers = hidden(state);
+    let forced = state.events().filter(|event| event.fate == Fate::Forced);
+    let both = answers.len() == 2 * forced.count();
+    let turned_down = Err(CallFault::Incoherent);
+    let all = answers.into_iter().all(|answer| answer == turned_down);
+    if state.fate(event) != Some(Fate::Forced) || !both || !all {
+        return Err("bytes that hide what was forced are taken".into());
+    }
+    let (event, number) = (name(event), CallFault::Incoherent.number());
     writeln!(out, "{event}, its line made done: turned down, {number}")?;
     Ok(())
 }

@@ -83,7 +83,7 @@ impl<'a, W: Write> Host<'a, W> {
             let stored = fs::read(&path)?;
             // Bytes from outside: another length and any damage are errors here.
             let state = State::from_bytes(stored.as_slice().try_into()?)?;
-            let told = state.history().count();
+            let told = state.line_count();
             plans.insert(name.into_owned(), Plan { state, told });
         }
         Ok(Host {
@@ -131,9 +131,9 @@ impl<'a, W: Write> Host<'a, W> {
     /// state is stored.
     fn tell(&mut self, name: &str) -> Result<()> {
         let plan = self.plans.get_mut(name).ok_or("no such plan")?;
-        let new: Vec<String> = plan.state.history().skip(plan.told).map(line).collect();
+        let new: Vec<String> = plan.state.settled_since(plan.told).map(line).collect();
         let held: Vec<String> = plan.state.held().map(|event| event.to_string()).collect();
-        plan.told += new.len();
+        plan.told = plan.state.line_count();
         let (new, held) = (or_nothing(new), or_nothing(held));
         writeln!(self.out, "; settled {new}; held {held}")?;
         self.store(name, &self.plans[name].state)
@@ -143,9 +143,7 @@ impl<'a, W: Write> Host<'a, W> {
     fn wind_up(&mut self) -> Result<()> {
         let names: Vec<String> = self.plans.keys().cloned().collect();
         for name in &names {
-            for step in 0..8 {
-                self.close_rest(name, step)?;
-            }
+            self.close_rest(name)?;
             let plan = self.plans.get_mut(name).ok_or("no such plan")?;
             plan.state.finish()?;
             write!(self.out, "{name}, wound up")?;
@@ -154,11 +152,13 @@ impl<'a, W: Write> Host<'a, W> {
         Ok(())
     }
 
-    /// Closes the step, if it has an event and is not closed yet.
-    fn close_rest(&mut self, name: &str, step: u8) -> Result<()> {
-        let plan = self.plans.get_mut(name).ok_or("no such plan")?;
-        if plan.state.close_step(step).is_ok() {
-            write!(self.out, "{name}, step {step}: closed")?;
+    /// Closes the steps of a plan that are not closed yet.
+    fn close_rest(&mut self, name: &str) -> Result<()> {
+        let steps = self.plans.get(name).ok_or("no such plan")?.state.steps();
+        for step in steps.filter(|step| !step.closed) {
+            let plan = self.plans.get_mut(name).ok_or("no such plan")?;
+            plan.state.close_step(step.number)?;
+            write!(self.out, "{name}, step {}: closed", step.number)?;
             self.tell(name)?;
         }
         Ok(())
@@ -166,21 +166,13 @@ impl<'a, W: Write> Host<'a, W> {
 
     /// How many events of all plans have a fate.
     fn count(&self, fate: Fate) -> usize {
-        let fates = |plan: &Plan| {
-            let events = 0..plan.state.event_count();
-            events
-                .filter(|event| plan.state.fate(*event) == Some(fate))
-                .count()
-        };
-        self.plans.values().map(fates).sum()
+        let events = self.plans.values().flat_map(|plan| plan.state.events());
+        events.filter(|event| event.fate == fate).count()
     }
 
     fn broken(&self) -> usize {
-        let broken = |plan: &Plan| {
-            let rules = 0..plan.state.rule_count();
-            rules.filter(|rule| plan.state.is_broken(*rule)).count()
-        };
-        self.plans.values().map(broken).sum()
+        let rules = self.plans.values().flat_map(|plan| plan.state.rules());
+        rules.filter(|rule| rule.broken).count()
     }
 
     fn summary(&mut self) -> Result<()> {

@@ -92,7 +92,7 @@ fn ask_and_hand_in(
     let as_it_was = *state == before;
     writeln!(out, "{}", preview_line(event, asked, as_it_was))?;
     let answer = state.submit(event);
-    let new: Vec<(u8, Fate)> = state.history().skip(before.history().count()).collect();
+    let new: Vec<(u8, Fate)> = state.settled_since(before.line_count()).collect();
     writeln!(out, "{}", settled_line(event, answer, &new))?;
     if !as_it_was || asked != answer.map(|_| counted(&new)) {
         return Err("the preview and the hand-in differ".into());

@@ -23,8 +23,7 @@ const SHEET: [u8; 22] = [
 const UNWRITTEN: u8 = 99;
 
 fn state_line(whose: &str, state: &State) -> String {
-    let fates = (0..state.event_count()).filter_map(|event| state.fate(event));
-    let fates: Vec<String> = fates.map(|fate| fate.to_string()).collect();
+    let fates: Vec<String> = state.events().map(|event| event.fate.to_string()).collect();
     let (events, rules) = (state.event_count(), state.rule_count());
     let fates = fates.join(" ");
     format!("{whose}: {events} events, {rules} rules: {fates}")

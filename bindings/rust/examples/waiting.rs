@@ -8,7 +8,7 @@
 //!
 //!     cargo run --release --offline --example waiting
 
-use sinewhopa::{raw, Call, Fate, Preview, State, STATE_LEN};
+use sinewhopa::{raw, Call, Fate, Form, Preview, Rule, State, STATE_LEN};
 use std::error::Error;
 use std::fs;
 use std::io::{self, Write};
@@ -21,23 +21,6 @@ const NAMES: [&str; 3] = ["embalming", "transport", "consent"];
 const EMBALMING: u8 = 0;
 const TRANSPORT: u8 = 1;
 const CONSENT: u8 = 2;
-
-/// Where a state's bytes have how many lines there are; the attributes of events; the
-/// rules' kinds and their events; the fates of events; which steps are closed; and the
-/// history.
-const LINES: usize = 3;
-const ATTRIBUTES: usize = 20;
-const RULE_KIND: usize = 36;
-const RULE_EVENTS: [usize; 3] = [52, 68, 84];
-const FATE: usize = 100;
-const CLOSED: usize = 132;
-const LINE_EVENT: usize = 140;
-const LINE_FATE: usize = 156;
-
-const CONDITIONAL: u8 = 4;
-const FORCIBLE: u8 = 1;
-const REJECTABLE: u8 = 2;
-const DELAYABLE: u8 = 4;
 
 /// Why a conditional holds one of its triggers back until its third event is settled.
 #[derive(Clone, Copy, PartialEq)]
@@ -177,28 +160,29 @@ fn open_plan(transport: u8, consent: u8) -> Result<State> {
 
 /// Why this rule holds the event back, read from the rule, the attributes and the fates
 /// alone; with the other trigger and the third event.
-fn reason_by(state: &State, rule: u8, event: u8) -> Option<(Reason, u8, u8)> {
-    let byte = |row: usize, place: u8| state.as_bytes()[row + usize::from(place)];
-    let [a, b, c] = RULE_EVENTS.map(|row| byte(row, rule));
-    let other = if event == a { b } else { a };
-    let stands = byte(RULE_KIND, rule) == CONDITIONAL && !state.is_broken(rule);
-    let asks = state.fate(c).is_some_and(|fate| !fate.is_settled());
-    if !stands || !asks || ![a, b].contains(&event) {
+fn reason_by(state: &State, rule: Rule, event: u8) -> Option<(Reason, u8, u8)> {
+    let Form::Conditional { triggers, then } = rule.form else {
+        return None;
+    };
+    let [a, b] = triggers;
+    let other = state.event(if event == a { b } else { a })?;
+    let third = state.event(then)?;
+    if rule.broken || third.fate.is_settled() || !triggers.contains(&event) {
         return None;
     }
-    let stoppable = byte(ATTRIBUTES, other) & (REJECTABLE | DELAYABLE) != 0;
-    let forcible = byte(ATTRIBUTES, c) & FORCIBLE != 0;
-    match state.fate(other)? {
-        fate if fate.counts_as_done() => Some((Reason::Due, other, c)),
-        Fate::Open if !stoppable && !forcible => Some((Reason::Ahead, other, c)),
+    let stoppable = other.attributes.is_rejectable() || other.attributes.is_delayable();
+    let forcible = third.attributes.is_forcible();
+    match other.fate {
+        fate if fate.counts_as_done() => Some((Reason::Due, other.number, then)),
+        Fate::Open if !stoppable && !forcible => Some((Reason::Ahead, other.number, then)),
         _ => None,
     }
 }
 
 /// An event that is held, and on what it waits; and the reason.
 fn wait_of(state: &State, event: u8) -> (String, Option<Reason>) {
-    let mut rules = 0..state.rule_count();
-    let Some((reason, other, third)) = rules.find_map(|rule| reason_by(state, rule, event)) else {
+    let reason = state.rules().find_map(|rule| reason_by(state, rule, event));
+    let Some((reason, other, third)) = reason else {
         return (name(event).to_string(), None);
     };
     let why = match reason {
@@ -282,7 +266,7 @@ fn answer(state: &mut State, call: Call) -> Result<Vec<(u8, Fate)>> {
         Call::Submit(event) => state.submit(event).map(|_| ())?,
         Call::CloseStep(step) => state.close_step(step)?,
     }
-    let new: Vec<(u8, Fate)> = state.history().skip(before.history().count()).collect();
+    let new: Vec<(u8, Fate)> = state.settled_since(before.line_count()).collect();
     match call {
         Call::Submit(event) if before.preview(event)? != counted(&new) => {
             Err("the preview and the hand-in differ".into())
@@ -352,21 +336,28 @@ fn play(neighbour: &Neighbour, out: &mut impl Write) -> Result<()> {
     Ok(())
 }
 
-/// Writes an event as settled, as only the calls do in a host.
-fn write_settled(bytes: &mut [u8; STATE_LEN], event: u8, fate: Fate) {
-    let line = usize::from(bytes[LINES]);
-    bytes[FATE + usize::from(event)] = fate.number();
-    bytes[LINE_EVENT + line] = event;
-    bytes[LINE_FATE + line] = fate.number();
-    bytes[LINES] += 1;
+/// What an earlier version has stored of the story's plan after these calls. It did embalming
+/// at once, as this version does where the consent form may be brought about. So the calls are
+/// made on such a plan; where the two plans' first bytes differ, the story's are taken.
+fn stored_earlier(calls: &[Call]) -> Result<[u8; STATE_LEN]> {
+    let (story, other) = (open_plan(0, 6)?, open_plan(0, 7)?);
+    let mut after = other.clone();
+    let answers = after.submit_all(calls)?;
+    answers
+        .into_iter()
+        .collect::<std::result::Result<Vec<_>, _>>()?;
+    let (own, others, mut bytes) = (story.as_bytes(), other.as_bytes(), *after.as_bytes());
+    for place in (0..STATE_LEN).filter(|place| own[*place] != others[*place]) {
+        bytes[place] = own[place];
+    }
+    Ok(bytes)
 }
 
 /// Bytes of an earlier version, where embalming was done at once. It is an error where a
 /// call does not turn them down, or where a byte changes.
 fn try_earlier(out: &mut impl Write) -> Result<()> {
-    let mut bytes = *open_plan(0, 6)?.as_bytes();
-    write_settled(&mut bytes, EMBALMING, Fate::Done);
-    let stored = bytes;
+    let stored = stored_earlier(&[Call::Submit(EMBALMING)])?;
+    let mut bytes = stored;
     let checked = State::from_bytes(&bytes)
         .err()
         .map_or(0, |fault| fault.number());
@@ -392,10 +383,7 @@ fn open_again(out: &mut impl Write) -> Result<()> {
 /// Bytes of an earlier version in which consent has lapsed too. Nothing is owed any more:
 /// they are taken, and the rule breaks.
 fn try_too_late(out: &mut impl Write) -> Result<()> {
-    let mut bytes = *open_plan(0, 6)?.as_bytes();
-    write_settled(&mut bytes, EMBALMING, Fate::Done);
-    write_settled(&mut bytes, CONSENT, Fate::Lapsed);
-    bytes[CLOSED + usize::from(CONSENT)] = 1;
+    let bytes = stored_earlier(&[Call::Submit(EMBALMING), Call::CloseStep(CONSENT)])?;
     let told = "stored by an earlier version, embalming done, consent lapsed, transport open:";
     writeln!(out, "{told}")?;
     let mut state = State::from_bytes(&bytes)?;

@@ -19,11 +19,15 @@ use std::fmt;
 pub enum Fate {
     /// It has not been handed in.
     Open,
-    /// It has been handed in and waits: for another event that a rule has before it or asks
-    /// for with it. A conditional also asks ahead. Where one of its triggers can be neither
-    /// refused nor held, and its third event cannot be forced, the other trigger waits for
-    /// the third event while that one is open, and is refused once the third is refused or
-    /// has lapsed. Or it waits for its [`Window`](crate::Window).
+    /// It has been handed in and waits. The answer is "not yet": the host does not carry it
+    /// out, and a later call does it or refuses it. [`State::held`](crate::State::held) lists
+    /// these events.
+    ///
+    /// It waits for another event that a rule has before it or asks for with it, or for its
+    /// [`Window`](crate::Window). A conditional also asks ahead. Where one of its triggers can
+    /// be neither refused nor held, and its third event cannot be forced, the other trigger
+    /// waits for the third event while that one is open, and is refused once the third is
+    /// refused or has lapsed.
     ///
     /// ```
     /// use sinewhopa::{Fate, State};
@@ -42,7 +46,7 @@ pub enum Fate {
     /// # Ok::<(), Box<dyn std::error::Error>>(())
     /// ```
     Held,
-    /// It is done.
+    /// It is done: the host carries it out.
     Done,
     /// It is refused.
     Refused,

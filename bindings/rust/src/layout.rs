@@ -7,7 +7,11 @@ use crate::STATE_LEN;
 pub const EVENTS: usize = 1;
 pub const RULES: usize = 2;
 pub const LINES: usize = 3;
-/// Rows, with a byte for each event, rule, step or line.
+/// Rows, with a byte for each event, rule, step or line. A rule names up to three events.
+pub const STEP: usize = 4;
+pub const ATTRIBUTES: usize = 20;
+pub const RULE_KIND: usize = 36;
+pub const RULE_EVENTS: [usize; 3] = [52, 68, 84];
 pub const FATE: usize = 100;
 pub const BROKEN: usize = 116;
 pub const CLOSED: usize = 132;
@@ -25,6 +29,11 @@ pub fn row(bytes: &[u8; STATE_LEN], start: usize, count: u8) -> &[u8] {
     bytes
         .get(start..start + usize::from(count))
         .unwrap_or_default()
+}
+
+/// Whether the mark at a place of a row is set; beyond the row it is not.
+pub fn marked(marks: &[u8], place: u8) -> bool {
+    marks.get(usize::from(place)) == Some(&1)
 }
 
 /// The four-byte number at a place, the lowest byte first.

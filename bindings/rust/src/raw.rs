@@ -85,6 +85,7 @@ extern "C" {
         need: *mut usize,
     ) -> u8;
     fn sinewhopa_check(state: *const u8) -> u8;
+    fn sinewhopa_version() -> u16;
     fn sinewhopa_report(state: *const u8, refused: usize, out: *mut u8, out_len: usize) -> usize;
     fn sinewhopa_run(
         sheet: *const u8,
@@ -231,6 +232,18 @@ pub fn write_sheet(state: &[u8; STATE_LEN], out: &mut [u8]) -> (u8, usize) {
 pub fn check(state: &[u8; STATE_LEN]) -> u8 {
     // SAFETY: `state` has the bytes of a state, which are only read.
     unsafe { sinewhopa_check(state.as_ptr()) }
+}
+
+/// The version of the library that is linked, major * 256 + minor.
+/// [`version`](crate::version) has the two numbers.
+///
+/// ```
+/// let (major, minor) = sinewhopa::version();
+/// assert_eq!(sinewhopa::raw::version(), u16::from(major) * 256 + u16::from(minor));
+/// ```
+pub fn version() -> u16 {
+    // SAFETY: the function takes nothing and reads nothing.
+    unsafe { sinewhopa_version() }
 }
 
 /// Writes the report of the state, with so many calls turned down, at the start

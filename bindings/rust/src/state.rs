@@ -1,15 +1,17 @@
-//! A state that a host keeps.
+//! A state that a host keeps: how it is made, the calls, and how it is stored and passed on.
+//! What can be read from it is in `event`, `step`, `rule` and `history`.
 
-use crate::layout::{self, row};
-use crate::{filled, raw, Answer, Call, CallFault, Fate, Preview, SheetFault, Window};
+use crate::layout;
+use crate::{filled, raw, Answer, Call, CallFault, Fate, Preview, SheetFault};
 use crate::{LONGEST_BATCH, LONGEST_SHEET, STATE_LEN};
 use std::fmt;
 
 /// The state of one plan: what its sheet declares, what has become of each event,
-/// the history and the current minute. It is 384 bytes in a layout that is fixed for ever, made by
-/// [`State::open`] and changed by calls alone; it can be stored and sent as
-/// [`State::as_bytes`] and comes back by [`State::from_bytes`]. A `State` always
-/// passes number 12, whatever calls are made on it.
+/// the history and the current minute. It is 384 bytes in a layout that is fixed for ever,
+/// made by [`State::open`] and changed by calls alone; it can be stored and sent as
+/// [`State::as_bytes`] and comes back by [`State::from_bytes`]. All that it says can be
+/// read by its methods, so that a host needs to know nothing of the layout. A `State`
+/// always passes number 12, whatever calls are made on it.
 ///
 /// ```
 /// use sinewhopa::{Fate, State};
@@ -47,10 +49,11 @@ impl State {
     }
 
     /// Hands in an event, at the current minute, and gives its fate: done, held or refused.
-    /// Further events may be settled with it; they have their lines at the end of the
-    /// history, where those that were open are forced. An event that is not open any more
-    /// keeps its fate, which is given again; so one that was forced before it was reported
-    /// gives [`Fate::Forced`].
+    /// A host hands in an event to ask, and carries it out only once it is done. Held is "not
+    /// yet": a later call does the event or refuses it. Further events may be settled with
+    /// the one that is handed in; [`State::settled_since`] gives them all, and those that
+    /// were open are forced. An event that is not open any more keeps its fate, which is
+    /// given again; so one that was forced before it was reported gives [`Fate::Forced`].
     ///
     /// ```
     /// use sinewhopa::{CallFault, Fate, State};
@@ -84,7 +87,7 @@ impl State {
     }
 
     /// Winds up, once every step that has an event is closed: what is still held is
-    /// refused, the lowest first, also what waits for its [`Window`].
+    /// refused, the lowest first, also what waits for its [`Window`](crate::Window).
     ///
     /// ```
     /// use sinewhopa::{Fate, State};
@@ -176,9 +179,9 @@ impl State {
     /// let preview = state.preview(0)?;
     /// assert_eq!(preview, Preview { done: 2, ..Preview::default() }); // 0, and 1 with it
     ///
-    /// let before = state.history().count();
+    /// let before = state.line_count();
     /// state.submit(0)?;
-    /// assert_eq!(state.history().count(), before + usize::from(preview.settled()));
+    /// assert_eq!(state.settled_since(before).count(), usize::from(preview.settled()));
     /// assert_eq!(state.preview(0)?, Preview::default()); // not open any more
     /// assert_eq!(state.preview(2), Err(CallFault::Unknown));
     /// # Ok::<(), Box<dyn std::error::Error>>(())
@@ -187,83 +190,6 @@ impl State {
         let mut added = [0; raw::ADDED_COUNTS];
         taken(raw::preview(&self.bytes, event, &mut added))?;
         Ok(Preview::from_counts(added))
-    }
-
-    /// What has become of an event; none where it is not declared.
-    ///
-    /// ```
-    /// use sinewhopa::{Fate, State};
-    ///
-    /// let state = State::open(&[1, 0, 6, 5])?;
-    /// assert_eq!(state.fate(0), Some(Fate::Open));
-    /// assert_eq!(state.fate(1), None);
-    /// # Ok::<(), sinewhopa::SheetFault>(())
-    /// ```
-    pub fn fate(&self, event: u8) -> Option<Fate> {
-        let fate = self.fates().get(usize::from(event))?;
-        Some(Fate::from_number(*fate))
-    }
-
-    /// The events that wait, the lowest first. [`Fate::Held`] says for what; which rule it
-    /// is can be read from the rules, the attributes and the fates in [`State::as_bytes`],
-    /// as the crate's `examples/waiting.rs` does. Whether it is the event's own window,
-    /// [`State::window`] and [`State::minute`] say.
-    ///
-    /// ```
-    /// use sinewhopa::State;
-    ///
-    /// let mut state = State::open(&[1, 0, 6, 1, 1, 6, 2, 0, 1, 5])?;
-    /// state.submit(1)?; // it waits for 0
-    /// assert_eq!(state.held().collect::<Vec<u8>>(), [1]);
-    /// # Ok::<(), Box<dyn std::error::Error>>(())
-    /// ```
-    pub fn held(&self) -> impl Iterator<Item = u8> + '_ {
-        let numbered = (0..).zip(self.fates());
-        let held = numbered.filter(|(_, fate)| **fate == Fate::Held.number());
-        held.map(|(event, _)| event)
-    }
-
-    /// The settled events and how each was settled, the oldest first. It only ever
-    /// grows at its end.
-    ///
-    /// ```
-    /// use sinewhopa::{Fate, State};
-    ///
-    /// let mut state = State::open(&[1, 0, 6, 1, 1, 6, 5])?;
-    /// state.close_step(1)?;
-    /// state.submit(0)?;
-    /// let history: Vec<(u8, Fate)> = state.history().collect();
-    /// assert_eq!(history, [(1, Fate::Lapsed), (0, Fate::Done)]);
-    /// # Ok::<(), Box<dyn std::error::Error>>(())
-    /// ```
-    pub fn history(&self) -> impl Iterator<Item = (u8, Fate)> + '_ {
-        let lines = self.bytes[layout::LINES];
-        let events = row(&self.bytes, layout::LINE_EVENT, lines).iter();
-        let fates = row(&self.bytes, layout::LINE_FATE, lines).iter();
-        let lines = events.zip(fates);
-        lines.map(|(event, fate)| (*event, Fate::from_number(*fate)))
-    }
-
-    /// How many events the sheet declares, at most 16.
-    ///
-    /// ```
-    /// # use sinewhopa::State;
-    /// assert_eq!(State::open(&[6, 0, 5])?.event_count(), 4);
-    /// # Ok::<(), sinewhopa::SheetFault>(())
-    /// ```
-    pub fn event_count(&self) -> u8 {
-        self.bytes[layout::EVENTS]
-    }
-
-    /// How many rules the sheet declares, at most 16.
-    ///
-    /// ```
-    /// # use sinewhopa::State;
-    /// assert_eq!(State::open(&[6, 0, 2, 0, 2, 5])?.rule_count(), 1);
-    /// # Ok::<(), sinewhopa::SheetFault>(())
-    /// ```
-    pub fn rule_count(&self) -> u8 {
-        self.bytes[layout::RULES]
     }
 
     /// The current minute: 0 at first, and then the last one that [`State::advance`] has
@@ -281,68 +207,15 @@ impl State {
         layout::number(&self.bytes, layout::MINUTE)
     }
 
-    /// The window of an event; none where the event is not declared or has none.
-    ///
-    /// ```
-    /// use sinewhopa::{State, Window};
-    ///
-    /// // Two events, and a window of event 1.
-    /// let state = State::open(&[1, 0, 6, 1, 1, 6, 7, 1, 102, 3, 0, 0, 132, 3, 0, 0, 5])?;
-    /// let (from, until) = (14 * 60 + 30, 15 * 60);
-    /// assert_eq!(state.window(1), Some(Window { from, until }));
-    /// assert_eq!((state.window(0), state.window(2)), (None, None));
-    /// # Ok::<(), sinewhopa::SheetFault>(())
-    /// ```
-    pub fn window(&self, event: u8) -> Option<Window> {
-        let at = |row| layout::number(&self.bytes, row + 4 * usize::from(event));
-        let declared = event < self.event_count();
-        let window = declared.then(|| Window {
-            from: at(layout::FROM),
-            until: at(layout::UNTIL),
-        });
-        // Where there is none, both are 0; where there is one, it ends above 0.
-        window.filter(|window| window.until > 0)
-    }
-
-    /// Whether the step is closed; no step above 7 is.
-    ///
-    /// ```
-    /// # use sinewhopa::State;
-    /// let mut state = State::open(&[1, 3, 6, 5])?;
-    /// assert!(!state.is_closed(3));
-    /// state.close_step(3)?;
-    /// assert!(state.is_closed(3) && !state.is_closed(200));
-    /// # Ok::<(), Box<dyn std::error::Error>>(())
-    /// ```
-    pub fn is_closed(&self, step: u8) -> bool {
-        marked(row(&self.bytes, layout::CLOSED, layout::STEPS), step)
-    }
-
-    /// Whether the rule is recorded as broken; a rule that is not declared never is.
-    /// Only an event that may be neither held nor refused breaks a rule. From the first
-    /// state on, a conditional breaks only where its third event is forcible: where it is
-    /// not, the other trigger waits for it ([`Fate::Held`]).
-    ///
-    /// ```
-    /// # use sinewhopa::State;
-    /// // Events 0 and 1 are forcible alone, and 0 needs 1, which has lapsed.
-    /// let mut state = State::open(&[1, 0, 1, 1, 1, 1, 3, 0, 1, 5])?;
-    /// state.close_step(1)?;
-    /// state.submit(0)?;
-    /// assert!(state.is_broken(0) && !state.is_broken(1));
-    /// # Ok::<(), Box<dyn std::error::Error>>(())
-    /// ```
-    pub fn is_broken(&self, rule: u8) -> bool {
-        marked(row(&self.bytes, layout::BROKEN, self.rule_count()), rule)
-    }
-
     /// The bytes, to be stored or sent.
     ///
     /// ```
-    /// # use sinewhopa::State;
-    /// let state = State::open(&[1, 0, 6, 5])?;
-    /// assert_eq!(state.as_bytes()[..4], [1, 1, 0, 0]); // version, events, rules, lines
-    /// # Ok::<(), sinewhopa::SheetFault>(())
+    /// # use sinewhopa::{State, STATE_LEN};
+    /// let mut state = State::open(&[1, 0, 6, 5])?;
+    /// state.submit(0)?;
+    /// let stored: [u8; STATE_LEN] = *state.as_bytes();
+    /// assert_eq!(State::from_bytes(&stored)?, state);
+    /// # Ok::<(), Box<dyn std::error::Error>>(())
     /// ```
     pub fn as_bytes(&self) -> &[u8; STATE_LEN] {
         &self.bytes
@@ -368,21 +241,16 @@ impl State {
     /// have done or forced such a trigger, with the other one open and the third event open
     /// or held, the bytes are turned down now. A host opens that plan again, from its sheet,
     /// and makes its calls again. Where the third event was refused or has lapsed since, the
-    /// bytes are taken; the rule then breaks should the other trigger be handed in.
+    /// bytes are taken; the rule then breaks should the other trigger be handed in. The
+    /// crate's `examples/waiting.rs` meets both.
     ///
     /// ```
-    /// use sinewhopa::{CallFault, Fate, State};
+    /// use sinewhopa::{Fate, State};
     ///
     /// // If 0 and 1, then 2; 1 can be neither refused nor held.
     /// let sheet = [1, 0, 6, 1, 1, 0, 1, 2, 6, 4, 0, 1, 2, 5];
-    /// let mut stored = *State::open(&sheet)?.as_bytes();
-    /// stored[3] = 1; // one line, which says of event 0 ..
-    /// stored[100] = Fate::Done.number(); // .. as its fate does ..
-    /// stored[156] = Fate::Done.number(); // .. that it is done
-    /// assert_eq!(State::from_bytes(&stored), Err(CallFault::Incoherent));
-    ///
-    /// let mut state = State::open(&sheet)?; // opened again: now it waits for 2
-    /// assert_eq!(state.submit(0)?, Fate::Held);
+    /// let mut state = State::open(&sheet)?;
+    /// assert_eq!(state.submit(0)?, Fate::Held); // versions before have done it at once
     /// # Ok::<(), Box<dyn std::error::Error>>(())
     /// ```
     pub fn from_bytes(bytes: &[u8; STATE_LEN]) -> Result<State, CallFault> {
@@ -472,16 +340,12 @@ impl State {
             (number, length) => taken(number).map(|()| length),
         }
     }
-
-    fn fates(&self) -> &[u8] {
-        row(&self.bytes, layout::FATE, self.event_count())
-    }
 }
 
 /// What the state says, in place of 384 numbers.
 impl fmt::Debug for State {
     fn fmt(&self, out: &mut fmt::Formatter<'_>) -> fmt::Result {
-        let fates = self.fates().iter().map(|fate| Fate::from_number(*fate));
+        let fates = self.events().map(|event| event.fate);
         let closed = (0..layout::STEPS).filter(|step| self.is_closed(*step));
         let broken = (0..self.rule_count()).filter(|rule| self.is_broken(*rule));
         out.debug_struct("State")
@@ -499,8 +363,4 @@ pub(crate) fn taken(number: u8) -> Result<(), CallFault> {
         0 => Ok(()),
         _ => Err(CallFault::from_number(number)),
     }
-}
-
-fn marked(marks: &[u8], place: u8) -> bool {
-    marks.get(usize::from(place)) == Some(&1)
 }

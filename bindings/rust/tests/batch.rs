@@ -44,12 +44,18 @@ fn answer(entry: &Entry) -> Answer {
     }
 }
 
+/// The number of an event's fate.
+fn fate_number(bytes: &Bytes, event: u8) -> u8 {
+    let state = State::from_bytes(bytes).expect("a state");
+    state.fate(event).expect("a declared event").number()
+}
+
 /// What an entry gets by a single call.
 fn single(bytes: &mut Bytes, entry: &Entry) -> Entry {
     let mut entry = *entry;
     (entry.refused, entry.fate) = match entry.kind {
         HAND_IN => match raw::submit(bytes, entry.number) {
-            0 => (0, bytes[FATE + usize::from(entry.number)]),
+            0 => (0, fate_number(bytes, entry.number)),
             number => (number, 0),
         },
         CLOSE_STEP => (raw::close_step(bytes, entry.number), 0),

@@ -123,7 +123,12 @@ fn works(mut state: State) {
             state.is_closed(number),
             state.is_broken(number),
             state.window(number),
+            state.step(number),
+            state.attributes(number),
         );
+        let count = usize::from(number);
+        let settled = state.settled_since(count).count();
+        assert_eq!(settled, state.line_count().saturating_sub(count));
     }
     for event in 0..3 {
         let _ = state.submit(event);

@@ -1,12 +1,15 @@
-//! The numbers here are those of the C header.
+//! The numbers and words here are those of the C header.
 
 use sinewhopa::raw::{self, Entry, CLOSE_STEP, HAND_IN};
-use sinewhopa::{CallFault, Fate, SheetFault, State, Window, STATE_LEN};
+use sinewhopa::{Attributes, CallFault, Fate, Form, SheetFault, State, Window, STATE_LEN};
 use sinewhopa::{LONGEST_BATCH, LONGEST_REPORT, LONGEST_SHEET};
 use std::collections::BTreeMap;
 use std::mem::{offset_of, size_of};
 
 const HEADER: &str = include_str!("../../../include/sinewhopa.h");
+
+/// What the header's functions for words say, as a program in C has printed it.
+const WORDS: &str = include_str!("../../../tests/words.txt");
 
 /// The header's constants, each with its number.
 fn constants() -> BTreeMap<&'static str, usize> {
@@ -70,6 +73,50 @@ fn numbers_are_the_headers() {
     }
 }
 
+/// The words of C for a fate or a number, from 0 on. The last one is for those unknown to it.
+fn words(what: &str) -> Vec<(u8, &'static str)> {
+    let lines = WORDS.lines().filter_map(|line| line.split_once(": "));
+    let words: Vec<(u8, &str)> = lines
+        .filter_map(|(of, word)| Some((of.strip_prefix(what)?.trim().parse().ok()?, word)))
+        .collect();
+    let numbered = (0..).zip(&words);
+    let in_turn = numbered.filter(|(place, (number, _))| place == number);
+    assert!(in_turn.count() == words.len() && words.len() > 1);
+    words
+}
+
+#[test]
+fn fates_have_the_headers_words() {
+    for (number, word) in words("fate") {
+        match Fate::from_number(number) {
+            Fate::Other(_) => assert_eq!(word, "unknown"),
+            fate => assert_eq!(fate.to_string(), word),
+        }
+    }
+}
+
+/// A record and an entry share number 2: the header's words for it name both.
+#[test]
+fn faults_have_the_headers_words() {
+    for (number, word) in words("number") {
+        let sheet = SheetFault::from_number(number, 9);
+        let of_sheet = !matches!(sheet, SheetFault::Other { .. });
+        let call = CallFault::from_number(number);
+        let of_call = !matches!(call, CallFault::Other(_));
+        assert_eq!(of_sheet && of_call, number == 2);
+        let known = number > 0 && word != "a number that this version does not know";
+        assert_eq!(of_sheet || of_call, known);
+        if of_sheet {
+            let word = word.replace("record or entry", "record");
+            let said = format!("{word}, at offset 9 of the sheet");
+            assert_eq!(sheet.to_string(), said);
+        }
+        if of_call {
+            assert_eq!(call.to_string(), word.replace("record or entry", "entry"));
+        }
+    }
+}
+
 /// The fields of a struct of the header, which has so many bytes, each with its
 /// offset and length.
 fn fields(of: &str, bytes: usize) -> BTreeMap<&'static str, (usize, usize)> {
@@ -128,7 +175,11 @@ fn readers_read_the_headers_fields() {
     assert_eq!(state.submit(0), Ok(Fate::Done));
     assert_eq!(state.submit(3), Ok(Fate::Held));
     let counts = ["version", "events", "rules", "lines"].map(|name| field(&state, name)[0]);
-    assert_eq!(counts, [1, state.event_count(), state.rule_count(), 2]);
+    assert_eq!(counts[1..], [state.event_count(), state.rule_count(), 2]);
+    assert_eq!(usize::from(counts[0]), constants()["VERSION_MAJOR"]);
+    assert_eq!(state.line_count(), 2);
+    let version = ["VERSION_MAJOR", "VERSION_MINOR"].map(|name| constants()[name]);
+    assert_eq!([sinewhopa::version().0, sinewhopa::version().1].map(usize::from), version);
     let fates = [Fate::Done, Fate::Lapsed, Fate::Open, Fate::Held];
     for (event, fate) in (0..).zip(fates) {
         assert_eq!(state.fate(event), Some(fate));
@@ -147,6 +198,43 @@ fn readers_read_the_headers_fields() {
     assert_eq!(history, [(1, Fate::Lapsed), (0, Fate::Done)]);
     assert_eq!(state.held().collect::<Vec<u8>>(), [3]);
     assert_eq!(raw::check(state.as_bytes()), 0);
+}
+
+/// Steps, attributes and rules are read where the header says, and by the header's numbers.
+#[test]
+fn declarations_are_read_from_the_headers_fields() {
+    let constants = constants();
+    let number = |name: &str| constants[name] as u8;
+    let [forcible, rejectable, delayable] = ["FORCIBLE", "REJECTABLE", "DELAYABLE"].map(number);
+    let [order, need, conditional] = ["ORDER", "NEED", "CONDITIONAL"].map(number);
+    let attributes = [forcible, rejectable, rejectable + delayable];
+    let events = [3, 5, 6].into_iter().zip(attributes);
+    let events: Vec<u8> = events.flat_map(|(step, each)| [1, step, each]).collect();
+    let rules = [&[order, 0, 2][..], &[need, 1, 0], &[conditional, 1, 0, 2]].concat();
+    let sheet = [&events[..], &rules, &[5]].concat();
+    let state = State::open(&sheet).expect("an admitted sheet");
+    assert_eq!(field(&state, "step")[..3], [3, 5, 6]);
+    assert_eq!(
+        [0, 1, 2].map(|event| state.step(event)),
+        [3, 5, 6].map(Some)
+    );
+    assert_eq!(field(&state, "attributes")[..3], attributes);
+    let read = [0, 1, 2].map(|event| state.attributes(event).expect("a declared event"));
+    assert_eq!(read.map(Attributes::number), attributes);
+    assert_eq!(read.map(Attributes::is_forcible), [true, false, false]);
+    assert_eq!(read.map(Attributes::is_rejectable), [false, true, true]);
+    assert_eq!(read.map(Attributes::is_delayable), [false, false, true]);
+    let rows = ["rule_kind", "rule_a", "rule_b", "rule_c"];
+    let bytes = [0, 1, 2].map(|rule| rows.map(|name| field(&state, name)[rule]));
+    let written = [[order, 0, 2, 0], [need, 1, 0, 0], [conditional, 1, 0, 2]];
+    assert_eq!(bytes, written);
+    let (earlier, later, event, needs, triggers, then) = (0, 2, 1, 0, [1, 0], 2);
+    let forms = [
+        Form::Order { earlier, later },
+        Form::Need { event, needs },
+        Form::Conditional { triggers, then },
+    ];
+    assert!(state.rules().map(|rule| rule.form).eq(forms));
 }
 
 /// The minute and windows are read where the header says: a byte that is written there is

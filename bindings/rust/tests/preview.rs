@@ -3,13 +3,10 @@
 
 mod common;
 
-use common::{changes, open, Bytes, Numbers, FATE, LINE_FATE, PARTIES};
+use common::{changes, open, Bytes, Numbers, FATE, PARTIES};
 use sinewhopa::raw::{self, ADDED_COUNTS, ADDED_DONE, ADDED_FORCED, ADDED_LAPSED, ADDED_REFUSED};
 use sinewhopa::{Call, CallFault, Fate, Preview, State, STATE_LEN};
 use std::collections::BTreeSet;
-
-/// Where a state's bytes have how many lines there are.
-const LINES: usize = 3;
 
 /// 0 and 2 come as they come. 1 after 0, and only if 0 and 2; 3, of 2's step, only if 2,
 /// and before 0; 4 only if 2.
@@ -28,13 +25,15 @@ fn preview(done: u8, refused: u8) -> Preview {
 }
 
 /// The number that handing in the event gives, and how many lines it adds to the
-/// history, by fate: found by doing it on a copy.
+/// history, by fate: found by doing it on a copy. Bytes that are no state get none.
 fn handed_in(bytes: &Bytes, event: u8) -> (u8, [u8; ADDED_COUNTS]) {
-    let mut after = *bytes;
+    let (mut after, mut added) = (*bytes, [0; ADDED_COUNTS]);
     let number = raw::submit(&mut after, event);
-    let mut added = [0; ADDED_COUNTS];
-    for line in bytes[LINES]..after[LINES] {
-        let fate = Fate::from_number(after[LINE_FATE + usize::from(line)]);
+    let Ok(before) = State::from_bytes(bytes) else {
+        return (number, added);
+    };
+    let after = State::from_bytes(&after).expect("a state");
+    for (_, fate) in after.settled_since(before.line_count()) {
         let place = match fate {
             Fate::Done => ADDED_DONE,
             Fate::Refused => ADDED_REFUSED,

@@ -4,42 +4,43 @@
 mod common;
 
 use common::{changes, open, Bytes, Numbers, PARTIES};
-use sinewhopa::{raw, CallFault, Fate, State, LONGEST_SHEET, STATE_LEN};
+use sinewhopa::{raw, CallFault, Event, Fate, Form, State, Window, LONGEST_SHEET, STATE_LEN};
 use std::collections::BTreeSet;
-
-/// Where a state's bytes have how many events and rules there are; steps and attributes
-/// of events; kinds of rules with their events, a, b and c; and windows of events.
-const EVENTS: usize = 1;
-const RULES: usize = 2;
-const EVENT_ROWS: [usize; 2] = [4, 20];
-const RULE_ROWS: [usize; 4] = [36, 52, 68, 84];
-const WINDOW_ROWS: [usize; 2] = [176, 240];
 
 /// How many bytes around a lent buffer are looked at too.
 const AROUND: usize = 8;
 
-/// The records of the events, rules and windows that stand in the bytes, and the end.
-fn declared(bytes: &Bytes) -> Vec<u8> {
-    let mut sheet = Vec::new();
-    for event in 0..usize::from(bytes[EVENTS]) {
-        sheet.push(1);
-        sheet.extend(EVENT_ROWS.map(|row| bytes[row + event]));
+/// The record of a rule.
+fn rule_record(form: Form) -> Vec<u8> {
+    match form {
+        Form::Order { earlier, later } => vec![2, earlier, later],
+        Form::Need { event, needs } => vec![3, event, needs],
+        Form::Conditional { triggers, then } => vec![4, triggers[0], triggers[1], then],
     }
-    for rule in 0..usize::from(bytes[RULES]) {
-        let record = RULE_ROWS.map(|row| bytes[row + rule]);
-        let length = if record[0] == 4 { 4 } else { 3 };
-        sheet.extend(&record[..length]);
-    }
-    for event in 0..bytes[EVENTS] {
-        let start = WINDOW_ROWS.map(|row| row + 4 * usize::from(event));
-        let window = start.map(|start| &bytes[start..start + 4]).concat();
-        if window != [0; 8] {
-            sheet.extend([7, event]);
-            sheet.extend(window);
-        }
-    }
-    sheet.push(5);
-    sheet
+}
+
+/// The record of an event's window; nothing where it has none.
+fn window_record(event: &Event) -> Vec<u8> {
+    let Some(Window { from, until }) = event.window else {
+        return Vec::new();
+    };
+    [
+        &[7, event.number],
+        &from.to_le_bytes()[..],
+        &until.to_le_bytes(),
+    ]
+    .concat()
+}
+
+/// The records of the events, rules and windows that the readers give, and the end.
+fn declared(state: &State) -> Vec<u8> {
+    let events: Vec<Event> = state.events().collect();
+    let declared = events
+        .iter()
+        .flat_map(|event| [1, event.step, event.attributes.number()]);
+    let rules = state.rules().flat_map(|rule| rule_record(rule.form));
+    let windows = events.iter().flat_map(window_record);
+    declared.chain(rules).chain(windows).chain([5]).collect()
 }
 
 /// Lends the raw function a buffer of that length, whatever it holds before. Sees that it
@@ -61,7 +62,7 @@ fn lent(bytes: &Bytes, room: usize, answer: (u8, usize), written: &[u8]) {
 /// up to two more than it has. Sees that it reads as the same events, rules and windows, at
 /// minute 0 with every event open, and is then written as the same bytes. Gives the sheet.
 fn written(state: &State) -> Vec<u8> {
-    let sheet = declared(state.as_bytes());
+    let sheet = declared(state);
     let length = sheet.len();
     for room in 0..=length + 2 {
         let mut out = vec![77; room];
@@ -79,10 +80,10 @@ fn written(state: &State) -> Vec<u8> {
     assert_eq!(state.to_sheet().as_ref(), Ok(&sheet));
 
     let read = open(&sheet);
-    assert_eq!(declared(read.as_bytes()), sheet);
+    assert_eq!(declared(&read), sheet);
     assert_eq!(read.to_sheet().as_ref(), Ok(&sheet));
-    let mut fates = (0..read.event_count()).map(|event| read.fate(event));
-    assert!(fates.all(|fate| fate == Some(Fate::Open)) && read.minute() == 0);
+    let all_open = read.events().all(|event| event.fate == Fate::Open);
+    assert!(all_open && read.minute() == 0);
     sheet
 }
 
@@ -190,7 +191,7 @@ fn sixteen_of_all_make_the_longest_sheet() {
 #[test]
 fn long_buffers_stay_beyond_the_sheet() {
     for state in [open(&[5]), open(PARTIES), longest()] {
-        let sheet = declared(state.as_bytes());
+        let sheet = declared(&state);
         for room in [255, 256, 257, 272, 273, 65_535, 65_536, 65_537, 1 << 20] {
             let (number, written) = match room < sheet.len() {
                 true => (14, &[][..]),
@@ -227,33 +228,6 @@ fn damaged_bytes_are_turned_down_first() {
     assert!(passed > STATE_LEN && damaged > 2 * passed, "{passed}");
 }
 
-impl Numbers {
-    /// A sheet of any records: each is kept where the sheet is admitted with it.
-    fn sheet(&mut self) -> Vec<u8> {
-        let mut sheet = vec![5];
-        for _ in 0..self.below(100) {
-            let kind = [1, 1, 2, 3, 4, 6, 7][usize::from(self.below(7))];
-            let (length, end) = match kind {
-                1 => (2, 8),
-                6 => (1, 8),
-                7 => (1, 16), // an event; the minutes of its window follow
-                4 => (3, 16),
-                _ => (2, 16),
-            };
-            let mut record = vec![kind];
-            record.extend((0..length).map(|_| self.below(end)));
-            if kind == 7 {
-                record.extend((0..8).map(|_| self.below(256)));
-            }
-            let longer = [&sheet[..sheet.len() - 1], &record, &[5]].concat();
-            if State::open(&longer).is_ok() {
-                sheet = longer;
-            }
-        }
-        sheet
-    }
-}
-
 /// Random sheets, some of them full: what is written reads as the state that the sheet
 /// itself reads as.
 #[test]
@@ -266,8 +240,9 @@ fn what_is_written_reads_as_what_was_read() {
         assert_eq!(open(&written(&state)), state);
         met.insert((state.event_count(), state.rule_count()));
         windows.insert(
-            (0..16)
-                .filter(|event| state.window(*event).is_some())
+            state
+                .events()
+                .filter(|event| event.window.is_some())
                 .count(),
         );
     }
@@ -289,9 +264,8 @@ fn calls_leave_the_sheet_as_it_is() {
             let _ = state.advance(u32::from(numbers.below(256)) << 24); // taken or not
             assert_eq!(written(&state), sheet);
         }
-        let events = (0..state.event_count()).filter_map(|event| state.fate(event));
-        fates.extend(events.map(Fate::number));
-        broken += usize::from((0..16).any(|rule| state.is_broken(rule)));
+        fates.extend(state.events().map(|event| event.fate.number()));
+        broken += usize::from(state.rules().any(|rule| rule.broken));
     }
     assert_eq!(fates, BTreeSet::from([0, 1, 2, 3, 4, 5]));
     assert!(broken > 10, "{broken}");

@@ -115,7 +115,7 @@ fn previews_are_what_happens(state: &State) {
     for event in 0..state.event_count() {
         let mut after = state.clone();
         make(&mut after, Submit(event));
-        let new = history(&after).split_off(state.history().count());
+        let new: Vec<Line> = after.settled_since(state.line_count()).collect();
         let count = |fate: Fate| new.iter().filter(|line| line.1 == fate).count() as u8;
         let counted = Preview {
             done: count(Fate::Done),

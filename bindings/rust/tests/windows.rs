@@ -38,8 +38,7 @@ fn plan(attributes: &[u8], rules: &[u8], windows: &[Hours], minute: u32) -> Stat
 }
 
 fn fates(state: &State) -> Vec<Fate> {
-    let events = 0..state.event_count();
-    events.filter_map(|event| state.fate(event)).collect()
+    state.events().map(|event| event.fate).collect()
 }
 
 /// What an event handed in at a minute comes to, where its window is from 870 until 900.
@@ -207,7 +206,8 @@ fn other_calls_go_by_the_minute() {
         ..Entry::default()
     }];
     assert_eq!(raw::submit_all(&mut bytes, &mut entries), 0);
-    assert_eq!((entries[0].refused, bytes[MINUTE]), (2, 4));
+    let minute = State::from_bytes(&bytes).map(|state| state.minute());
+    assert_eq!((entries[0].refused, minute), (2, Ok(4)));
     let calls = [16, 0, 19, 5, 0, 0, 0, 17, 0];
     let report = "events 1 rules 0\nheld 1\nbroken 0\nrefused calls 1\n";
     assert_eq!(
@@ -367,13 +367,13 @@ fn random_lists_keep_to_their_windows() {
         let windows = [hours(0), hours(1), hours(2)];
         let mut state = open(&sheet(&attributes, &rules, &windows));
         for _ in 0..12 {
-            let before = state.history().count();
+            let before = state.line_count();
             match numbers.below(4) {
                 0 => state.advance(state.minute() + 1).expect("a later minute"),
                 1 => _ = state.close_step(numbers.below(4)),
                 _ => hand_in(&mut state, numbers.below(4)),
             }
-            for (event, fate) in state.history().skip(before) {
+            for (event, fate) in state.settled_since(before) {
                 let window = state.window(event).filter(|_| fate.counts_as_done());
                 let minute = state.minute();
                 assert!(window.is_none_or(|hours| (hours.from..hours.until).contains(&minute)));
@@ -390,9 +390,9 @@ fn random_lists_keep_to_their_windows() {
 }
 
 fn hand_in(state: &mut State, event: u8) {
-    let (before, counted) = (state.history().count(), state.preview(event));
+    let (before, counted) = (state.line_count(), state.preview(event));
     assert!(state.submit(event).is_ok());
-    let settled = state.history().count() - before;
+    let settled = state.settled_since(before).count();
     assert_eq!(
         counted.map(|preview| usize::from(preview.settled())),
         Ok(settled)

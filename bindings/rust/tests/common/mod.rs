@@ -7,7 +7,8 @@ use sinewhopa::{State, STATE_LEN};
 
 pub type Bytes = [u8; STATE_LEN];
 
-/// Where a state's bytes have the fates of events, and those of lines.
+/// Where a state's bytes have the fates of events, and those of lines: for tests that write
+/// bytes themselves.
 pub const FATE: usize = 100;
 pub const LINE_FATE: usize = 156;
 
@@ -41,6 +42,31 @@ impl Numbers {
         let stepped = self.0.wrapping_mul(6_364_136_223_846_793_005);
         self.0 = stepped.wrapping_add(1_442_695_040_888_963_407);
         ((self.0 >> 33) % end) as u8
+    }
+
+    /// A sheet of any records: each is kept where the sheet is admitted with it.
+    pub fn sheet(&mut self) -> Vec<u8> {
+        let mut sheet = vec![5];
+        for _ in 0..self.below(100) {
+            let kind = [1, 1, 2, 3, 4, 6, 7][usize::from(self.below(7))];
+            let (length, end) = match kind {
+                1 => (2, 8),
+                6 => (1, 8),
+                7 => (1, 16), // an event; the minutes of its window follow
+                4 => (3, 16),
+                _ => (2, 16),
+            };
+            let mut record = vec![kind];
+            record.extend((0..length).map(|_| self.below(end)));
+            if kind == 7 {
+                record.extend((0..8).map(|_| self.below(256)));
+            }
+            let longer = [&sheet[..sheet.len() - 1], &record, &[5]].concat();
+            if State::open(&longer).is_ok() {
+                sheet = longer;
+            }
+        }
+        sheet
     }
 
     /// One more call, turned down or not.
