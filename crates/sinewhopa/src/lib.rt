@@ -1,10 +1,11 @@
 // The static library: what include/sinewhopa.h declares. Here the run of a whole list; in state.rt single calls on a
 // state that the host keeps, in batches.rt several together, in previews.rt what one would settle, in sheets.rt the state
-// written out.
+// written out, in version.rt the version.
 pub mod batches;
 pub mod previews;
 pub mod sheets;
 pub mod state;
+pub mod version;
 
 ghost use mathlib.Core.Path.{_≡_};
 ghost use Prim.Native.Nat.{_≤_};
