@@ -19,7 +19,7 @@ use Rattle.theory.proofs.Coherence.{coherent-sound, coherent-invariant, accepte
 use Rattle.theory.proofs.Demands.{demand3, admitted-sized}
 use Rattle.theory.proofs.SheetPlans.{sheet-read}
 use Rattle.image.specs.Layout.{imageOf, stateIn, isImage, Whole}
-use Rattle.image.specs.Calls.{numberOn, imageAfter, numbersOn, imagesAfter, numbersOf, Hosted}
+use Rattle.image.specs.Calls.{numberOn, imageAfter, numbersOn, imagesAfter, isSound, checkOn, numbersOf, Hosted}
 use Rattle.image.proofs.Images.{image-is, read-back, write-back}
 
 -- a call keeps the plan, and the arrays' lengths
@@ -136,3 +136,16 @@ hosts sheet s cs h =
       numbers = images-numbers s cs w;
       demand = subst (Demand3 (s .plan) (seen scheduler s cs)) (sym kept) (demand3 sheet s cs h);
     }
+
+-- in a host's words: the bytes that it keeps pass the check after any calls, and each call on them has the number of the
+-- call on the state
+module _ (sheet : List ℕ) (s : State) (cs : List Call) (h : readSheet sheet ≡ admitted s) where
+  pub hosts-check : checkOn (imagesAfter (imageOf s) cs) ≡ 0
+  unfolding checkOn isSound
+  hosts-check =
+      let k = hosts sheet s cs h in
+      let image : isImage (imagesAfter (imageOf s) cs) ≡ true = ap isImage (k .bytes) ∙ image-is (after scheduler s cs) in
+      rw (image, k .demand .claim .coherent-end)
+
+  pub hosts-numbers : numbersOn (imageOf s) cs ≡ numbersOf s cs
+  hosts-numbers = hosts sheet s cs h .numbers
