@@ -1,14 +1,14 @@
 -- For each ground of a refusal, and for lapsing and holding, a worthless scheduler that does it without the ground; and
 -- two that the grounds let pass: only the whole of demand 2 turns them away.
-use Prim.Native.Nat.{ℕ, suc, _<_}
+use Prim.Native.Nat.{ℕ, suc, _≤_, _<_}
 use native.Mathlib.Omega.{arith}
 use native.Mathlib.Decide.{ℕ-discrete}
 use mathlib.Core.Bool.{Bool, true, false, not, _&&_}
-use mathlib.Core.List.{List, [], _∷_, List·Memᴰ·not-nil, List·Memᴰ·head}
+use mathlib.Core.List.{List, [], _∷_, _++_, List·Memᴰ, List·Memᴰ·cases-cons, List·Memᴰ·not-nil, List·Memᴰ·head, List·Memᴰ·tail}
 use mathlib.Core.Logic.{inl, inr}
 use mathlib.Core.Path.{_≡_, refl, sym, _∙_, ap, subst}
 use lib.Dec.{eqb}
-use lib.ListN.{getD}
+use lib.ListN.{getD, length}
 use Rattle.theory.proofs.Types.{Need, Fate, Open, Held, Done, Refused, Lapsed, Forced, Order, Plan, Entry, State, Call, Submit, Close, Finish, Advance, Window}
 use Rattle.plan.specs.Plans.{emptyPlan, eventCount, ruleCount, ruleAt, stepOf, rejectable, delayable, hasWindow, blankWindow}
 use Rattle.plan.specs.Fates.{Fates, isOpen, isHeld, isDone, isGone, isSettled}
@@ -17,7 +17,7 @@ use Rattle.plan.specs.Rules.{named, enforceable, soundRule, bars, ready, owes}
 use Rattle.plan.specs.Records.{addEvent, addRule, addWindow}
 use Rattle.scheduler.specs.State.{firstState, fateOf, lines, hold, settleAs, shut, setMinute, Sized}
 use Rattle.scheduler.specs.Rules.{stands, ruledOut, barred, forbidden, owing}
-use Rattle.scheduler.specs.Orders.{mayDo, doOne, doAll, Viable}
+use Rattle.scheduler.specs.Orders.{mayDo, doOne, doAll, Viable, First}
 use Rattle.scheduler.specs.Calls.{advanceTo}
 use Rattle.scheduler.specs.Coherent.{coherentRule, coherent}
 use Rattle.scheduler.specs.Lists.{Scheduler, scheduler}
@@ -30,11 +30,12 @@ use Rattle.plan.proofs.Fates.{held-is}
 use Rattle.plan.proofs.Arrays.{read-blank}
 use Rattle.plan.proofs.Windows.{unwindowed-over, unwindowed-allowed}
 use Rattle.scheduler.proofs.Laws.{plan-one, fate-settle-other, sized-hold, sized-shut, sized-settle}
+use Rattle.scheduler.proofs.Searching.{run-declared, mem-long}
 use Rattle.scheduler.proofs.Settling.{plan-turns}
 use Rattle.scheduler.proofs.Doing.{rest-held, settled-fixed}
 use Rattle.theory.proofs.Minutes.{trail-plan}
 use Rattle.theory.proofs.Demands.{first-sized, all-open}
-use Rattle.theory.proofs.Forcing.{heard, trail-heard, trail-unopened}
+use Rattle.theory.proofs.Forcing.{heard, trail-forces, trail-heard, trail-unopened}
 use Rattle.theory.proofs.TrailFates.{trail-sized, trail-refuses, trail-lapses}
 use Rattle.theory.proofs.Timeless.{timeless}
 use Rattle.theory.proofs.Exact.{exact-only}
@@ -340,3 +341,48 @@ not-impatient-reasons k =
 -- S-7, without windows: the minute makes no difference to a hand-in
 pub timeless-one : call (setMinute one 5) (Submit 0) .state ≡ setMinute (call one (Submit 0) .state) 5
 timeless-one = timeless one 5 (Submit 0) (first-sized (one .plan)) unwindowed-one refl .states
+
+-- ordered, the chosen order: forces an event that nobody needs, in a viable order that is longer than it has to be
+abbrev pub spendthrift : Scheduler
+spendthrift s (Submit e) = settleAs Forced (settleAs Done (hold s e) e) (suc e)
+spendthrift s (Close k) = scheduler s (Close k)
+spendthrift s Finish = scheduler s Finish
+spendthrift s (Advance m) = scheduler s (Advance m)
+
+abbrev unneeded : State
+unneeded = firstState (addEvent (addEvent emptyPlan 0 6) 0 1)
+
+-- without rules the chosen order of a held event is that event alone, so that nothing is open when its turn comes
+module _ (u : State) (unruled : ruleCount (u .plan) ≡ 0) (untimed : u .plan .windows ≡ emptyPlan .windows) (e : ℕ) (h : fateOf u e ≡ Held) where
+  short-order : (o : List ℕ) → First u e o → length o ≤ 1
+  short-order o f =
+      let lt = run-declared u o (f .viable .runs) e (f .viable .contains) .0 in
+      elim (f .least (e ∷ []) (free-viable u unruled untimed e lt h)) [ inl l ↦ omega arith | inr q ↦ omega (arith, q .0) ]
+
+  nothing-opened : (d : ℕ) (earlier later : List ℕ)
+      → First u e (earlier ++ (d ∷ later))
+      → fateOf (doAll u earlier) d ≡ Open
+      → ⊥
+  unfolding doAll
+  nothing-opened d [] [] f o = elim (List·Memᴰ·cases-cons (f .viable .contains)) [
+    | inl q ↦ clash (ap isHeld h) (ap (λ i. isHeld (fateOf u i)) q ∙ ap isHeld o)
+    | inr m ↦ List·Memᴰ·not-nil m
+  ]
+  nothing-opened d [] (y ∷ later) f o = omega (arith, short-order (d ∷ y ∷ later) f)
+  nothing-opened d (x ∷ earlier) later f o =
+      omega (arith, short-order (x ∷ (earlier ++ (d ∷ later))) f, mem-long (earlier ++ (d ∷ later)) (within d earlier later))
+    where
+      within : (d : ℕ) (earlier later : List ℕ) → List·Memᴰ d (earlier ++ (d ∷ later))
+      within d [] later = List·Memᴰ·head refl
+      within d (x ∷ earlier) later = List·Memᴰ·tail (within d earlier later)
+
+pub not-spendthrift : Grounded spendthrift → ⊥
+unfolding shownBy
+not-spendthrift g =
+    let z = first-sized (unneeded .plan) in
+    elim (trail-forces (g unneeded (Submit 0) z) z 1 refl) [
+      | inl f ↦ let w : _≡_ {A = ℕ} 0 1 = cc in omega arith
+      | inr f ↦
+          let same = trail-plan (f .reached) in
+          nothing-opened (f .at) (ap ruleCount same) (ap (λ (p : Plan). p .windows) same) (f .for) (f .waits) 1 (f .earlier) (f .later) (f .order) (f .opened)
+    ]
