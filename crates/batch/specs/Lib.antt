@@ -1,4 +1,4 @@
--- Batches: hand-ins and closings that are made together, on a state and on a kept one.
+-- Batches: submits (hand-ins) and closings that are made together, on a state and on a kept one.
 pub mod Types
 pub mod Batch
 pub mod Kept

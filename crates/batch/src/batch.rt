@@ -9,8 +9,8 @@ ghost use mathlib.Core.Path.{_≡_};
 ghost use Rattle.batch.specs.Batch.{batchFault, batchReply, batchEntries};
 ghost use Rattle.batch.specs.Internal.Turns.{verdictOf};
 
-// Makes the calls that the entries ask for and writes each one's answer into it. Number 12 is tested once, then 13, before
-// any entry is looked at; a batch turned down by either leaves the state and every entry as they were.
+// Makes the calls that the entries ask for and writes its answer into each entry. Number 12 is tested once, then 13,
+// before any entry is looked at. A batch that is turned down leaves the state and every entry as they were.
 pub fn submit_all(state: State, entries: &mut [BatchEntry]) -> Reply
     ensures { λ r. ⌜ (r ≡ batchReply state (now (entries .entry))) × (now (entries .exit) ≡ batchEntries state (now (entries .entry))) ⌝ }
 {
@@ -30,7 +30,7 @@ pub fn submit_all(state: State, entries: &mut [BatchEntry]) -> Reply
     reply_of(judged, next)
 }
 
-// Whether a batch is taken, and its answer.
+// Whether a batch is accepted, and its answer.
 pub(crate) struct Judged {
     pub taken: bool,
     pub answer: Answer,

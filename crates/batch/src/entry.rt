@@ -11,8 +11,8 @@ ghost use Rattle.plan.specs.Faults.{answerFate};
 ghost use Rattle.batch.specs.Batch.{carrying, carries, fateCarried};
 ghost use Rattle.batch.specs.Internal.Turns.{single, turn};
 
-// A hand-in (kind 16) or a closing (kind 17) with its number, and its answer: why it was turned down, or 0, and the fate
-// of an event that was handed in (9.11, 9.13).
+// A submit (hand in, kind 16) or a closing (kind 17) with its number, and its answer: the number that turned it down,
+// or 0, and the fate of an event that was submitted (9.11, 9.13).
 #[repr(C)]
 pub struct BatchEntry {
     pub kind: u8,
@@ -27,8 +27,8 @@ pub(crate) struct Answered {
     pub entry: BatchEntry,
 }
 
-// An entry's turn. The batch has tested number 12, and a state that passes it still does after any call, so the turns
-// do not test it.
+// An entry's turn. The batch has made the coherence test, number 12, and every call preserves coherence, so the turns
+// do not test it again.
 pub(crate) fn take_turn(state: State, entry: BatchEntry) -> Answered
     ensures { λ r. ⌜ r ≡ turn state entry ⌝ }
 {
@@ -64,7 +64,7 @@ fn carry_answer(entry: BatchEntry, answer: Answer) -> BatchEntry
     carry(entry, refused, carried_fate(answer))
 }
 
-// The number of the fate that an answer gives; 0 where it gives none.
+// The number of the fate that an answer gives; 0 if it gives none.
 fn carried_fate(answer: Answer) -> u8
     ensures { λ r. ⌜ r ≡ fateCarried (answerFate answer) ⌝ }
 {
@@ -75,7 +75,7 @@ fn carried_fate(answer: Answer) -> u8
     }
 }
 
-// The entry with these in it; its kind and its number stay.
+// The entry with this answer in it; its kind and number stay.
 fn carry(entry: BatchEntry, refused: u8, fate: u8) -> BatchEntry
     ensures { λ r. ⌜ r ≡ carrying entry refused fate ⌝ }
 {

@@ -11,7 +11,8 @@ ghost use Rattle.plan.specs.Faults.{answerNumber, isTurnedDown};
 ghost use Rattle.image.specs.Layout.{imageOf};
 ghost use Rattle.batch.specs.Internal.Turns.{keptState};
 
-// The state that the bytes say. Where they are no image it fails number 12, so that a batch on it is turned down.
+// The state that the bytes stand for. For bytes that are no image it is a state that is not coherent, so that a batch
+// on it is turned down with number 12.
 pub fn kept_state(bytes: [u8; 384]) -> State
     ensures { λ r. ⌜ r ≡ keptState bytes ⌝ }
 {

@@ -6,7 +6,7 @@ use plan::answer::SheetFault;
 ghost use mathlib.Core.Path.{_≡_};
 ghost use Rattle.plan.specs.Faults.{sheetFaultNumber, callFaultNumber, answerNumber, answerFate};
 
-// The number that the table gives (4.2).
+// The number of a sheet's fault (4.2).
 pub fn sheet_fault_number(fault: SheetFault) -> usize
     ensures { λ r. ⌜ r ≡ sheetFaultNumber fault ⌝ }
 {
@@ -37,7 +37,7 @@ pub fn call_fault_number(fault: CallFault) -> usize
     }
 }
 
-// An answer's number: the fault's where the call is turned down, and 0 where it is taken.
+// An answer's number: that of the fault if the call is turned down, 0 if it is accepted.
 pub fn answer_number(answer: Answer) -> usize
     ensures { λ r. ⌜ r ≡ answerNumber answer ⌝ }
 {

@@ -9,7 +9,7 @@ ghost use lib.ListN.{length, drop};
 ghost use mathlib.Core.List.{[], _∷_};
 ghost use Rattle.plan.specs.Calls.{callOf, callSize, firstCall, advanceIn, anyCallFirst};
 
-// The record at an offset, one of those that the runner takes: of kind 16 to 18.
+// The record at an offset, of a kind that the runner takes: 16 to 18.
 pub fn call_at(bytes: &[u8], at: usize) -> CallRead
     ensures { λ r. ⌜ r ≡ firstCall (drop at (now (bytes .entry))) ⌝ }
 {
@@ -22,7 +22,7 @@ pub fn call_at(bytes: &[u8], at: usize) -> CallRead
     call_of(bytes[at], bytes[at + 1])
 }
 
-// The record at an offset, of every kind.
+// The record at an offset, of any kind.
 pub fn any_call_at(bytes: &[u8], at: usize) -> CallRead
     ensures { λ r. ⌜ r ≡ anyCallFirst (drop at (now (bytes .entry))) ⌝ }
 {
@@ -32,7 +32,7 @@ pub fn any_call_at(bytes: &[u8], at: usize) -> CallRead
     call_at(bytes, at)
 }
 
-// The record of kind 19 at an offset: four bytes follow, the lowest first, or it is cut.
+// The record of kind 19 at an offset: four bytes follow, the lowest first, or the record is cut.
 fn advance_at(bytes: &[u8], at: usize) -> CallRead
     requires { ⌜ at < length (now bytes) ⌝ }
     ensures { λ r. ⌜ r ≡ advanceIn (drop (at + 1) (now (bytes .entry))) ⌝ }
@@ -44,7 +44,7 @@ fn advance_at(bytes: &[u8], at: usize) -> CallRead
     CallRead::Listed(Call::Advance(minute))
 }
 
-// The bytes that a call's record takes.
+// How many bytes a call's record has.
 pub fn call_size(made: Call) -> usize
     ensures { λ r. ⌜ r ≡ callSize made ⌝ }
 {
@@ -56,7 +56,7 @@ pub fn call_size(made: Call) -> usize
     }
 }
 
-// A record of which one byte is left.
+// A record with only its kind byte left.
 fn last_call(kind: u8) -> CallRead
     ensures { λ r. ⌜ r ≡ firstCall (kind ∷ []) ⌝ }
 {
@@ -67,7 +67,7 @@ fn last_call(kind: u8) -> CallRead
     }
 }
 
-// A record of a kind that one byte more may belong to.
+// The call of a record of this kind, with the byte after the kind.
 fn call_of(kind: u8, number: u8) -> CallRead
     ensures { λ r. ⌜ r ≡ callOf kind number ⌝ }
 {

@@ -29,8 +29,8 @@ pub fn is_held(x: Fate) -> bool
     }
 }
 
-// Done, or forced, which counts as done: none of the others. (Two fates that are not neighbours would be told by a table, and
-// a loop over all events made slow.)
+// Done, or forced, which counts as done: none of the other fates. (A match on two non-adjacent variants compiles to a
+// table and slows the loop over events.)
 pub fn is_done(x: Fate) -> bool
     ensures { λ r. ⌜ r ≡ isDone x ⌝ }
 {
@@ -64,7 +64,7 @@ pub fn is_settled(x: Fate) -> bool
     }
 }
 
-// How an order settles an event: by force if it is open when its turn comes.
+// The fate that an order gives an event: forced if the event is open when its turn comes, else done.
 pub fn done_as(opened: bool) -> Fate
     ensures { λ r. ⌜ r ≡ doneAs opened ⌝ }
 {
@@ -74,7 +74,7 @@ pub fn done_as(opened: bool) -> Fate
     Fate::Done
 }
 
-// The number of a fate, as images have it.
+// The number of a fate, as in an image.
 pub fn fate_number(x: Fate) -> u8
     ensures { λ r. ⌜ r ≡ fateNumber x ⌝ }
 {
@@ -88,7 +88,7 @@ pub fn fate_number(x: Fate) -> u8
     }
 }
 
-// Two fates are compared by their numbers.
+// Compares two fates by their numbers.
 pub fn is_same(x: Fate, y: Fate) -> bool
     ensures { λ r. ⌜ r ≡ sameFate x y ⌝ }
 {

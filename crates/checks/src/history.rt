@@ -2,7 +2,7 @@
 ghost use mathlib.Core.Path.{_≡_};
 ghost use Prim.Native.Nat.{min};
 
-// The lines that a length gives.
+// How many lines a length stands for.
 pub fn lines_in(len: u8) -> u8
     ensures { λ r. ⌜ r ≡ min len 16 ⌝ }
 {

@@ -8,7 +8,7 @@ ghost use mathlib.Core.Path.{_≡_};
 ghost use Rattle.plan.specs.declared.plan.Plan.{Plan};
 ghost use Rattle.plan.specs.Plans.{emptyPlan, eventCount, hasEvent};
 
-// No event and no rule.
+// The plan without events and rules.
 pub fn empty_plan() -> Plan
     ensures { λ r. ⌜ r ≡ emptyPlan ⌝ }
 {
@@ -29,7 +29,7 @@ pub fn empty_plan() -> Plan
     }
 }
 
-// Has the step an event among so many? Past the places stand blanks, of step 0.
+// Does one of the first `count` events belong to the step? An event past the 16 places counts as of step 0.
 pub fn has_event(events: [Event; 16], count: u8, step: u8) -> bool
     ensures { λ r. ⌜ ((p : Plan) → p .events ≡ events → eventCount p ≡ count → r ≡ hasEvent p step) ⌝ }
 {

@@ -1,5 +1,6 @@
-// Rules, and which a sheet takes. Tests of a single rule take the arrays that they read, and not the whole plan: they say
-// what holds of every plan with these events. What a rule forbids and owes is asked of sets, in `members`.
+// Rules, and which of them a sheet may declare. The tests of a single rule take the arrays that they read, and not the
+// whole plan: their contracts cover every plan with these events. What a rule forbids and owes is asked of sets, in
+// `members`.
 use super::event::is_delayable;
 use super::event::is_forcible;
 use super::event::is_rejectable;
@@ -25,7 +26,7 @@ pub fn are_named(count: u8, rule: Rule) -> bool
     }
 }
 
-// Can the rule be enforced?
+// Is the rule enforceable?
 pub fn is_enforceable(events: [Event; 16], rule: Rule) -> bool
     ensures { λ r. ⌜ ((p : Plan) → p .events ≡ events → r ≡ enforceable p rule) ⌝ }
 {
@@ -57,7 +58,7 @@ pub fn is_enforceable(events: [Event; 16], rule: Rule) -> bool
     }
 }
 
-// The events that a rule names; of two the second is also the last.
+// The events that a rule names; if it names two, the second is also the last.
 fn names_of(rule: Rule) -> Names
     ensures { λ r. ⌜ r ≡ namesOf rule ⌝ }
 {

@@ -9,16 +9,16 @@ ghost use lib.ListN.{take};
 ghost use Rattle.plan.specs.Fates.{fatesOf};
 ghost use Rattle.coherence.specs.Listings.{Listed};
 
-// What one pass over the lines tells: whether each could stand there, which events have a line, and of those that are
-// done the place of it, counted from 1; 0 for the others.
+// What one pass over the lines tells: whether each line may stand there, which events have a line, and for each done
+// event the place of its line, counted from 1; 0 for the others.
 pub struct Listing {
     pub ok: bool,
     pub listed: [bool; 16],
     pub places: [u8; 16],
 }
 
-// Where the events stand in the lines; not ok at a line of an event that is not declared, has a line before it, is not
-// settled or has another fate.
+// Where the events stand in the lines. It is not ok if a line names an event that is not declared, has an earlier line,
+// is not settled or has another fate.
 pub fn list_events(history: [Entry; 16], len: u8, count: u8, standings: [Standing; 16]) -> Listing
     ensures { λ r. ⌜ Listed (take len history) count (fatesOf standings) r ⌝ }
 {

@@ -1,6 +1,6 @@
-// The tests of number 12: of single events and rules, the passes over all of them, and the whole. Any parts are read,
-// also those of a state that a caller made up. A pass does not get the history: it says what holds of every history that
-// goes with what it gets.
+// The tests of coherence, number 12: of single events and rules, the passes over all of them, and the whole. They read
+// any parts, also those of a state that a caller made up. A pass does not get the history: its contract covers every
+// history consistent with its arguments.
 use super::listing::list_events;
 use checks::event::are_bad;
 use checks::event::is_delayable;
@@ -30,7 +30,7 @@ ghost use Rattle.plan.specs.Histories.{holds};
 ghost use Rattle.coherence.specs.Listings.{Placed, placeIn, Marked};
 ghost use Rattle.coherence.specs.Cohering.{eventsCohere, rulesCohere, coheres, awaits, rightAs};
 
-// Do the parts of a state hang together? Where they do not, number 12 applies.
+// Are the parts of a state coherent? If they are not, number 12 applies.
 pub fn does_cohere(
     plan: Plan,
     standings: [Standing; 16],
@@ -58,7 +58,7 @@ pub fn does_cohere(
     are_rules_coherent(plan, standings, broken, places) & are_windows_sound(plan)
 }
 
-// Is there no window, or one that a sheet could give, in every event's place?
+// Does every event's place hold no window, or one that a sheet could give the event?
 fn are_windows_sound(plan: Plan) -> bool
     ensures { λ r. ⌜ r ≡ soundWindows plan ⌝ }
 {
@@ -77,7 +77,7 @@ fn are_windows_sound(plan: Plan) -> bool
     true
 }
 
-// No window; or one of a declared event that may wait, which ends after it begins.
+// Is there no window, or one that ends after it begins, of a declared event that is delayable?
 fn is_right(window: Window, declared: bool, attributes: u8) -> bool
     ensures { λ r. ⌜ r ≡ rightAs declared attributes window ⌝ }
 {
@@ -85,7 +85,7 @@ fn is_right(window: Window, declared: bool, attributes: u8) -> bool
         | (declared & is_delayable(attributes) & (window.from < window.until))
 }
 
-// Do the declared events hang together with the history and the steps? `listed` says which have a line.
+// Are the declared events coherent with the history and the steps? `listed` says which have a line.
 fn are_events_coherent(
     plan: Plan,
     standings: [Standing; 16],
@@ -117,7 +117,7 @@ fn are_events_coherent(
     true
 }
 
-// Would a sheet be admitted with the event?
+// Could a sheet declare the event?
 fn is_sound(event: Event) -> bool
     ensures { λ r. ⌜ r ≡ (not (badStep (event .step)) && not (badAttributes (event .attributes))) ⌝ }
 {
@@ -131,8 +131,8 @@ fn may_be_held(event: Event, fate: Fate) -> bool
     !(is_held(fate) & !is_delayable(event.attributes))
 }
 
-// Do the declared rules hang together with the events and the history? The events do; `places` says which are done,
-// and in which order.
+// Are the declared rules coherent with the events and the history? The events are; `places` says which of them are
+// done, and in which order.
 fn are_rules_coherent(
     plan: Plan,
     standings: [Standing; 16],
@@ -162,7 +162,7 @@ fn are_rules_coherent(
     true
 }
 
-// Would a sheet with these events be admitted with the rule?
+// Could a sheet with these events declare the rule?
 fn is_admitted(count: u8, events: [Event; 16], rule: Rule) -> bool
     ensures { λ r. ⌜ ((p : Plan) → p .events ≡ events → r ≡ (named count rule && enforceable p rule)) ⌝ }
 {
@@ -213,7 +213,7 @@ fn does_await(events: [Event; 16], standings: [Standing; 16], places: [u8; 16], 
     }
 }
 
-// Is the event open, and can neither be refused nor wait?
+// Is the event open, and neither rejectable nor delayable?
 fn is_unstoppable(event: Event, fate: Fate) -> bool
     ensures { λ r. ⌜ r ≡ (isOpen fate && not (holdsBit 2 (event .attributes)) && not (holdsBit 4 (event .attributes))) ⌝ }
 {

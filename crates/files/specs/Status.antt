@@ -1,4 +1,4 @@
--- What the exported function's contract cites.
+-- What the contract of the exported function cites.
 use Prim.Native.Nat.{_≤_}
 use lib.IntN.{ℤ, pos, negsuc}
 

@@ -1,5 +1,6 @@
-// From sheet.bin and calls.bin in the working directory to the report on standard output. What goes wrong with a file or
-// with the output is said in one line on standard error and by the answer, which a program in C gives as its exit status.
+// Reads sheet.bin and calls.bin in the working directory and prints the report on standard output. If a file or the
+// output fails, one line on standard error says so, and so does the answer, which a program in C gives as its exit
+// status.
 use libc::STDERR_FILENO;
 use libc::STDOUT_FILENO;
 ghost use Prim.Native.Nat.{_+_, _≤_, min};
@@ -12,13 +13,13 @@ ghost use Rattle.files.specs.Status.{Status};
 // How many bytes of a file count.
 const LIMIT: usize = 65536;
 
-// What became of a file: whether it was read, and how many bytes of it count.
+// What reading a file gave: whether it was read, and how many of its bytes count.
 struct Contents {
     is_read: bool,
     len: usize,
 }
 
-// Reads the two files, runs the calls and prints the report: 0, or 1 where a file or the report failed.
+// Reads the two files, runs the calls and prints the report. Answers 0, or 1 if a file or the report failed.
 #[no_mangle]
 pub extern "C" fn sinewhopa_files() -> i32
     ensures { λ r. ⌜ Status r ⌝ }
@@ -39,7 +40,7 @@ pub extern "C" fn sinewhopa_files() -> i32
     print_run(&sheet[..sheet_len], &calls[..calls_len])
 }
 
-// Runs the calls on the sheet and prints the report: 0, or 1 where the output fails.
+// Runs the calls on the sheet and prints the report. Answers 0, or 1 if the output fails.
 fn print_run(sheet: &[u8], calls: &[u8]) -> i32
     ensures { λ r. ⌜ Status r ⌝ }
 {
@@ -49,8 +50,8 @@ fn print_run(sheet: &[u8], calls: &[u8]) -> i32
     print_report(sheet, calls, &out[..n])
 }
 
-// The start of a file, at most LIMIT bytes. A missing file counts as empty; of one that goes on past the limit, and of
-// one that cannot be opened or read, standard error says so.
+// Reads the start of a file, at most LIMIT bytes. A missing file counts as empty. If a file goes on past the limit, or
+// cannot be opened or read, standard error says so.
 fn read_file(path: &[u8], buf: &mut [u8]) -> Contents
     ensures { λ r. ⌜ Counts (r .«len») (now (buf .exit)) ⌝ }
     ensures { λ r. ⌜ r .«len» ≤ 65536 ⌝ }
@@ -73,7 +74,7 @@ fn read_file(path: &[u8], buf: &mut [u8]) -> Contents
     }
 }
 
-// Whether the open that just failed found no file; another reason is said on standard error.
+// Did the open that just failed find no file? Any other reason is said on standard error.
 fn is_missing(path: &[u8]) -> bool {
     if os::errno() == libc::ENOENT {
         return true;
@@ -82,7 +83,7 @@ fn is_missing(path: &[u8]) -> bool {
     false
 }
 
-// Reads until the buffer is full or the file ends; not read, where a read fails.
+// Reads until the buffer is full or the file ends. If a read fails, the file counts as not read.
 fn fill(fd: i32, buf: &mut [u8]) -> Contents
     ensures { λ r. ⌜ r .«len» ≤ length (now (buf .exit)) ⌝ }
 {
@@ -119,7 +120,7 @@ fn read_more(fd: i32, buf: &mut [u8], done: usize) -> Contents
     }
 }
 
-// How many of the bytes that were read count: at most LIMIT. Where there are more, standard error says so.
+// How many of the bytes that were read count: at most LIMIT. If there are more, standard error says so.
 fn cut(path: &[u8], len: usize) -> usize
     ensures { λ r. ⌜ r ≡ min len 65536 ⌝ }
 {
@@ -134,8 +135,8 @@ fn cut(path: &[u8], len: usize) -> usize
     LIMIT
 }
 
-// Writes the report of the sheet and the calls, and no other text: 0, or 1 where that fails, be it only as the output is
-// closed; standard error then says so.
+// Writes the report of the sheet and the calls, and no other text. Answers 0, or 1 if that fails, even if only closing
+// the output fails; standard error then says so.
 fn print_report(sheet: &[u8], calls: &[u8], text: &[u8]) -> i32
     requires { ⌜ now text ≡ report (runOf (now sheet) (now calls)) ⌝ }
     ensures { λ r. ⌜ Status r ⌝ }

@@ -1,5 +1,5 @@
--- A state as 384 bytes: where each part stands, the bytes of a state, the state that bytes say, and which bytes are
--- an image. The layout is fixed for ever: a host may keep the bytes from one version of the library to the next.
+-- A state as 384 bytes: where each part stands, the bytes of a state, the state that bytes stand for, and which bytes
+-- are an image. The layout is fixed for ever: a host may keep the bytes from one version of the library to the next.
 use Prim.Native.Nat.{ℕ, _+_, _*_, _/_, _%_}
 use mathlib.Core.Bool.{Bool, _&&_, _||_}
 use mathlib.Core.List.{List, [], _∷_, _++_}
@@ -15,7 +15,7 @@ use Rattle.plan.specs.Records.{ruleOf, wordAt}
 use Rattle.plan.specs.Calls.{bytesOf}
 use Rattle.scheduler.specs.State.{fateOf, brokenAt, closedAt, lineCount, Sized}
 
--- where the parts begin; before the first array stand the version, and how many events, rules and lines there are
+-- the offset of each part. Before the first row stand the version and the counts of events, rules and lines (5.9)
 abbrev pub stepAt : ℕ
 stepAt = 4
 
@@ -61,10 +61,11 @@ untilAt = 240
 abbrev pub spareAt : ℕ
 spareAt = 304
 
--- a rule's kind, as in a sheet, and its events; 0 where it has no third
+-- a rule's kind, as in a sheet (5.9)
 abbrev pub ruleKind : Rule → ℕ
 ruleKind r = elim r [ Order a b ↦ 2 | Need a b ↦ 3 | Conditional a b c ↦ 4 ]
 
+-- a rule's events; 0 for the third one if it has none (5.9)
 abbrev pub ruleA : Rule → ℕ
 ruleA r = elim r [ Order a b ↦ a | Need a b ↦ a | Conditional a b c ↦ a ]
 
@@ -74,18 +75,19 @@ ruleB r = elim r [ Order a b ↦ b | Need a b ↦ b | Conditional a b c ↦ b ]
 abbrev pub ruleC : Rule → ℕ
 ruleC r = elim r [ Order a b ↦ 0 | Need a b ↦ 0 | Conditional a b c ↦ c ]
 
--- place i of the history, also past its last line
+-- place i of the history, also beyond its last line
 abbrev pub placeOf : State → ℕ → Entry
 placeOf s i = readAt 16 (s .history) i blankEntry
 
--- byte k of the four bytes of a number, the lowest first; and byte i of a row of such numbers
+-- byte k of a number of four bytes, the lowest first (3.5)
 abbrev pub wordByte : ℕ → ℕ → ℕ
 wordByte m k = getD (bytesOf m) k 0
 
+-- byte i of a row of such numbers (5.9)
 abbrev pub rowByte : (ℕ → ℕ) → ℕ → ℕ
 rowByte f i = wordByte (f (i / 4)) (i % 4)
 
--- the bytes of a state
+-- the image of a state (5.9)
 unfoldable pub imageOf : State → List ℕ
 imageOf s =
     (1 ∷ eventCount (s .plan) ∷ ruleCount (s .plan) ∷ lineCount s ∷ [])
@@ -108,11 +110,11 @@ imageOf s =
 abbrev pub byteAt : List ℕ → ℕ → ℕ
 byteAt b k = getD b k 0
 
--- the fate of a number
+-- the fate that has this number (5.9)
 abbrev pub fateFrom : ℕ → Fate
 fateFrom n = getD (Open ∷ Held ∷ Done ∷ Refused ∷ Lapsed ∷ []) n Forced
 
--- each part that bytes say: a rule's four bytes are read as a sheet's record
+-- the parts of a state, read from bytes; a rule's four bytes are read as a sheet's record
 abbrev pub eventIn : List ℕ → ℕ → Event
 eventIn b e = record { step = byteAt b (stepAt + e); attributes = byteAt b (attributesAt + e) }
 
@@ -147,7 +149,7 @@ planIn b = record {
   windows = tabulate 16 0 (windowIn b);
 }
 
--- the state that bytes say
+-- the state that bytes stand for (5.13)
 unfoldable pub stateIn : List ℕ → State
 stateIn b = record {
   plan = planIn b;
@@ -159,7 +161,8 @@ stateIn b = record {
   minute = wordAt b minuteAt;
 }
 
--- place i holds a rule's kind, no third event but for a conditional, two fates, and a mark
+-- in place i of the rows the rule's kind is 2, 3 or 4, its third event is 0 unless it is a conditional, both fates are
+-- at most 5 and the mark is at most 1 (5.11)
 unfoldable pub placeOk : List ℕ → ℕ → Bool
 placeOk b i =
     ltb 1 (byteAt b (kindAt + i))
@@ -169,18 +172,19 @@ placeOk b i =
     && ltb (byteAt b (markAt + i)) 2
     && ltb (byteAt b (lineFateAt + i)) 6
 
--- the lower three numbers that number e of four bytes is read from, the minute and then those of the windows, are
--- bytes. Of bytes this says nothing: whatever they are, they are an image there
+-- the number fits one byte
 abbrev pub isByte : ℕ → Bool
 isByte n = ltb n 256
 
+-- the lower three bytes of number e, one of the 33 numbers of four bytes (the minute, then those of the windows), are
+-- below 256. All bytes pass this test (5.12)
 unfoldable pub wordOk : List ℕ → ℕ → Bool
 wordOk b e =
     isByte (byteAt b (minuteAt + 4 * e))
     && isByte (byteAt b (minuteAt + 4 * e + 1))
     && isByte (byteAt b (minuteAt + 4 * e + 2))
 
--- bytes that some state is written with (proved: of 384 bytes exactly these)
+-- the bytes are an image (5.11). Proved: of all lists of 384 bytes, exactly the images of states pass this test
 unfoldable pub isImage : List ℕ → Bool
 isImage b =
     eqb (byteAt b 0) 1
@@ -189,17 +193,18 @@ isImage b =
     && allBelow 80 (λ k. eqb (byteAt b (spareAt + k)) 0)
     && allBelow 33 (wordOk b)
 
--- every array has its length, the plan's too, as in every state that code can hold
+-- every array has its length, also those of the plan, as in every state that code can hold
 pub record Whole (s : State) : Type 0 where
   pub sized : Sized s
   pub events-len : length (s .plan .events) ≡ 16
   pub rules-len : length (s .plan .rules) ≡ 16
   pub windows-len : length (s .plan .windows) ≡ 16
 
--- every number fits a byte, or four, as in every state that code can hold
+-- the number fits four bytes
 abbrev pub isWord : ℕ → Bool
 isWord n = ltb n 4294967296
 
+-- the numbers in place i of the rows fit one byte, or four
 unfoldable pub placeFits : State → ℕ → Bool
 placeFits s i =
     isByte (stepOf (s .plan) i)
@@ -211,6 +216,7 @@ placeFits s i =
     && isWord (windowAt (s .plan) i .from)
     && isWord (windowAt (s .plan) i .until)
 
+-- every number fits one byte, or four, as in every state that code can hold
 unfoldable pub fits : State → Bool
 fits s =
     isByte (eventCount (s .plan))

@@ -1,4 +1,4 @@
-// Calls made on an image, and whether it can be gone on with. Bytes that are no image answer 12 and stay.
+// Calls on an image, and the check of an image. Bytes that are no image are answered with 12 and stay as they are.
 use super::read::state_in;
 use super::test::is_image;
 use super::write::put_call;
@@ -13,7 +13,7 @@ ghost use Rattle.plan.specs.Faults.{answerNumber, isTurnedDown};
 ghost use Rattle.image.specs.Calls.{numberOn, imageAfter, isSound, checkOn};
 ghost use Rattle.image.specs.Internal.Writes.{withCall};
 
-// Makes a call on the state that the image says, and answers its number: 0 where it is taken.
+// Makes a call on the state of the image and answers its number: 0 if it is accepted.
 pub fn make_call(image: &mut [u8; 384], made: Call) -> u8
     ensures number { λ r. ⌜ r ≡ numberOn (now (image .entry)) made ⌝ }
     ensures bytes { λ _. ⌜ now (image .exit) ≡ imageAfter (now (image .entry)) made ⌝ }
@@ -29,7 +29,7 @@ pub fn make_call(image: &mut [u8; 384], made: Call) -> u8
     note(image, answer, next)
 }
 
-// Are the bytes an image of a state that hangs together?
+// Are the bytes the image of a coherent state?
 pub fn is_sound(image: &[u8; 384]) -> bool
     ensures { λ r. ⌜ r ≡ isSound (now (image .entry)) ⌝ }
 {
@@ -40,7 +40,7 @@ pub fn is_sound(image: &[u8; 384]) -> bool
     state.is_coherent()
 }
 
-// 0 where they are, else 12.
+// The check: 0 if they are, else 12.
 pub fn check(image: &[u8; 384]) -> u8
     ensures { λ r. ⌜ r ≡ checkOn (now (image .entry)) ⌝ }
 {
@@ -60,8 +60,8 @@ fn note(image: &mut [u8; 384], answer: Answer, next: State) -> u8
     0
 }
 
-// Does nothing. The proof of a call has to be told that the bytes are as many as their type says, and an array given by
-// value tells it.
+// Does nothing. The proof of a call needs to know that there are as many bytes as the type says, and an array that is
+// passed by value tells it.
 fn measure(bytes: [u8; 384])
     ensures { λ _. ⌜ length bytes ≡ 384 ⌝ }
 {}

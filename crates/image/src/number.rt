@@ -8,7 +8,7 @@ ghost use Rattle.plan.specs.Records.{ruleOf};
 ghost use Rattle.image.specs.Layout.{fateFrom, ruleKind, ruleA, ruleB, ruleC};
 ghost use Rattle.image.specs.Calls.{verdictNumber, verdictOffset};
 
-// A sheet's number: 0 where it is admitted.
+// A sheet's number: 0 if it is admitted.
 pub fn verdict_number(verdict: Verdict) -> u8
     ensures { λ r. ⌜ r ≡ verdictNumber verdict ⌝ }
 {
@@ -18,7 +18,7 @@ pub fn verdict_number(verdict: Verdict) -> u8
     }
 }
 
-// The offset of a sheet's fault: 0 where it is admitted.
+// The offset of a sheet's fault: 0 if the sheet is admitted.
 pub fn verdict_offset(verdict: Verdict) -> usize
     ensures { λ r. ⌜ r ≡ verdictOffset verdict ⌝ }
 {
@@ -28,7 +28,7 @@ pub fn verdict_offset(verdict: Verdict) -> usize
     }
 }
 
-// The fate of a number.
+// The fate that has this number.
 pub(crate) fn fate_from(n: u8) -> Fate
     ensures { λ r. ⌜ r ≡ fateFrom n ⌝ }
 {
@@ -50,7 +50,7 @@ pub(crate) fn fate_from(n: u8) -> Fate
     Fate::Forced
 }
 
-// The rule of four bytes.
+// The rule that four bytes stand for.
 pub(crate) fn rule_from(kind: u8, a: u8, b: u8, c: u8) -> Rule
     ensures { λ r. ⌜ r ≡ ruleOf (record { kind = kind; x = a; y = b; z = c; from = 0; until = 0 }) ⌝ }
 {

@@ -1,4 +1,4 @@
-// The state that bytes say, array by array.
+// The state that bytes stand for, read array by array.
 use super::number::fate_from;
 use super::number::rule_from;
 use checks::bytes::word_of;
@@ -18,7 +18,7 @@ ghost use Rattle.plan.specs.Base.{tabulate};
 ghost use Rattle.plan.specs.Records.{wordAt};
 ghost use Rattle.image.specs.Layout.{markAt, shutAt, byteAt, eventIn, ruleIn, standingIn, entryIn, windowIn, planIn, stateIn};
 
-// The state that the bytes say. Any bytes say one; only an image says all that it holds.
+// The state that the bytes stand for. Any bytes stand for one, but only an image is written again as the same bytes.
 pub fn state_in(image: &[u8; 384]) -> State
     ensures { λ r. ⌜ r ≡ stateIn (now (image .entry)) ⌝ }
 {

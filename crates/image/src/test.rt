@@ -1,11 +1,11 @@
-// Which bytes are an image. No test ends its loop early: whole rows are compared at once then.
+// Which bytes are an image. No test ends its loop early, so that whole rows are compared at once.
 ghost use mathlib.Core.Path.{_≡_};
 ghost use Prim.Native.Nat.{_+_, _<_};
 ghost use lib.Dec.{eqb, ltb};
 ghost use Rattle.plan.specs.Base.{allBelow};
 ghost use Rattle.image.specs.Layout.{shutAt, spareAt, byteAt, placeOk, isByte, wordOk, isImage};
 
-// Are they bytes that a state is written with?
+// Are the bytes an image?
 pub fn is_image(image: &[u8; 384]) -> bool
     ensures { λ r. ⌜ r ≡ isImage (now (image .entry)) ⌝ }
 {
@@ -16,7 +16,7 @@ pub fn is_image(image: &[u8; 384]) -> bool
         & are_words(image)
 }
 
-// Does every place hold what a rule, two fates and a mark are written with?
+// Does every place hold a rule, two fates and a mark as they are written?
 fn are_places(image: &[u8; 384]) -> bool
     ensures { λ r. ⌜ r ≡ allBelow 16 (placeOk (now (image .entry))) ⌝ }
 {
@@ -42,7 +42,7 @@ fn is_place(image: &[u8; 384], i: usize) -> bool
         & (image[156 + i] < 6)
 }
 
-// Are the marks of the steps marks?
+// Is each mark of a step 0 or 1?
 fn are_closings(image: &[u8; 384]) -> bool
     ensures { λ r. ⌜ r ≡ allBelow 8 (λ k. ltb (byteAt (now (image .entry)) (shutAt + k)) 2) ⌝ }
 {
@@ -68,7 +68,7 @@ fn is_rest_spare(image: &[u8; 384]) -> bool
     ok
 }
 
-// Are the numbers of four bytes read from bytes? They always are: no test is left of this in the program.
+// Are the numbers of four bytes read from bytes? They always are, so the program is left with no such test.
 fn are_words(image: &[u8; 384]) -> bool
     ensures { λ r. ⌜ r ≡ allBelow 33 (wordOk (now (image .entry))) ⌝ }
 {

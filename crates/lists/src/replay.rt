@@ -1,5 +1,5 @@
-// A whole list of calls of every kind, moves of the minute among them: the sheet, then each call on the state that the
-// one before gave.
+// A whole list of calls of every kind, advances included: the sheet is read, and then each call is made on the state
+// that the one before it gave.
 use checks::calls::any_call_at;
 use checks::calls::call_size;
 use plan::answer::Verdict;
@@ -17,8 +17,8 @@ ghost use Rattle.scheduler.specs.Lists.{scheduler};
 ghost use Rattle.scheduler.specs.Runner.{ranOn, replayOf};
 ghost use Rattle.scheduler.specs.Demand.{Demand3, seen};
 
-// As `run`, with records of kind 19 too. A cut record or another kind ends the list and counts as one call turned down.
-// Demand 3 holds of every admitted sheet and every list.
+// As `run`, with records of kind 19 too. A record that is cut or of another kind ends the list and counts as one call
+// turned down. The guarantee (demand 3) is true of every admitted sheet and every list.
 pub fn replay(sheet: &[u8], calls: &[u8]) -> Outcome
     ensures result { λ r. ⌜ r ≡ replayOf (now (sheet .entry)) (now (calls .entry)) ⌝ }
     ensures demand3 { λ r. ⌜ ((s : State) → readSheet (now (sheet .entry)) ≡ admitted s → Demand3 (s .plan) (seen scheduler s (decodeAll (now (calls .entry)) .calls)) (r .state)) ⌝ }
@@ -36,8 +36,8 @@ pub fn replay(sheet: &[u8], calls: &[u8]) -> Outcome
     }
 }
 
-// The calls of a list, record after record, from an admitted sheet's first state, as `take_calls` of run.rt; no call is
-// skipped.
+// Makes the calls of a list, record after record, from an admitted sheet's first state on, as `take_calls` of run.rt;
+// no call is skipped.
 fn take_any_calls(state: State, calls: &[u8]) -> Outcome
     requires { ⌜ coherent state ≡ true ⌝ }
     ensures { λ r. ⌜ r ≡ ranOn state (decodeAll (now (calls .entry))) ⌝ }

@@ -1,4 +1,4 @@
-// A whole list: the sheet, then each call on the state that the one before gave.
+// A whole list: the sheet is read, and then each call is made on the state that the one before it gave.
 use checks::calls::call_at;
 use checks::calls::call_size;
 use checks::fate::is_open;
@@ -21,8 +21,9 @@ ghost use Rattle.scheduler.specs.Runner.{ranOn, runOf};
 ghost use Rattle.scheduler.specs.Demand.{Demand3, seen};
 ghost use Rattle.lists.specs.Internal.Underway.{Underway};
 
-// A cut record or another kind ends the list and counts as one call turned down; on a sheet turned down no call is
-// made. Demand 3 holds of every admitted sheet and every list.
+// Runs the calls on the sheet. A record that is cut or of another kind ends the list and counts as one call turned
+// down. On a sheet that is turned down no call is made. The guarantee (demand 3) is true of every admitted sheet and
+// every list.
 pub fn run(sheet: &[u8], calls: &[u8]) -> Outcome
     ensures result { λ r. ⌜ r ≡ runOf (now (sheet .entry)) (now (calls .entry)) ⌝ }
     ensures demand3 { λ r. ⌜ ((s : State) → readSheet (now (sheet .entry)) ≡ admitted s → Demand3 (s .plan) (seen scheduler s (decode (now (calls .entry)) .calls)) (r .state)) ⌝ }
@@ -40,8 +41,8 @@ pub fn run(sheet: &[u8], calls: &[u8]) -> Outcome
     }
 }
 
-// The calls of a list, record after record, from an admitted sheet's first state. That one passes number 12, and so
-// does every state after it: number 12 is tested nowhere.
+// Makes the calls of a list, record after record, from an admitted sheet's first state on. That state is coherent, and
+// every call preserves coherence, so number 12 is not tested.
 fn take_calls(state: State, calls: &[u8]) -> Outcome
     requires { ⌜ coherent state ≡ true ⌝ }
     ensures { λ r. ⌜ r ≡ ranOn state (decode (now (calls .entry))) ⌝ }
@@ -92,14 +93,14 @@ fn take_calls(state: State, calls: &[u8]) -> Outcome
     }
 }
 
-// Where a list goes on after calls that change nothing, and how many calls are turned down by then.
+// Where a list goes on after calls that change nothing, and how many calls were turned down by then.
 struct Skipped {
     pub at: usize,
     pub refused: usize,
 }
 
-// Over the calls from an offset on that leave the state as it is, turned down or not, up to one that may change it, a bad
-// record or the end. Which events are open and which steps are closed is read once for all of them.
+// Skips the calls from an offset on that leave the state as it is, turned down or not, up to one that may change it, a
+// bad record or the end. Which events are open and which steps are closed is read once for all of them.
 fn skip_idle(state: State, calls: &[u8], from: usize, before: usize) -> Skipped
     requires { ⌜ ((before ≤ from) × (from ≤ length (now calls))) ⌝ }
     ensures ahead { λ r. ⌜ from ≤ r .at ⌝ }

@@ -15,7 +15,8 @@ ghost use Rattle.orders.specs.Stepwise.{follows, blocked};
 ghost use Rattle.members.specs.Prelude.{Plan};
 ghost use Rattle.members.specs.Sets.{inSet, unbroken, Shows};
 
-// The events that a rule forbids for good, or puts after one of those left; with none left, just the barred.
+// The events that a rule forbids for good, or puts after one of those left. With none left, these are the events that a
+// rule bars.
 pub fn blocked_in(
     rules: [RuleLine; 16],
     broken: [bool; 16],

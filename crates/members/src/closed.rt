@@ -1,4 +1,4 @@
-// The least set of events that have to be done together with one.
+// The least closed set: the events that have to be done together with one.
 use super::rule::is_pending;
 use super::set::is_in;
 use super::set::with_if;
@@ -15,15 +15,15 @@ ghost use Rattle.members.specs.Prelude.{Plan};
 ghost use Rattle.members.specs.Sets.{inSet, unbroken, Shows};
 ghost use Rattle.members.specs.Growing.{Added, Sure, Passed, Closes};
 
-// Some events, and how many; or that there are none that would do.
+// A set of events, and how many it has; or that no set will do.
 pub struct Members {
     pub ok: bool,
     pub set: u16,
     pub count: u8,
 }
 
-// The least set with the event that has everything that its members wait for or call for, if its events are able and
-// at most six.
+// The least closed set of the event: all events that its members wait for or call for are in it. There is none if one
+// of its events is not able, or if it has more than six.
 pub fn close_set(
     rules: [RuleLine; 16],
     broken: [bool; 16],
@@ -122,7 +122,7 @@ fn target_of(rule: Rule) -> u8
     }
 }
 
-// Does the rule ask for it, when the members are to be done?
+// Does the rule ask for this event if the members are to be done?
 fn does_ask(rule: Rule, members: u16, view: View) -> bool
     ensures { λ r. ⌜ ((p : Plan) (f : Fates) → Shows p f view → r ≡ asks p f (inSet members) rule) ⌝ }
 {

@@ -14,8 +14,8 @@ ghost use Rattle.members.specs.Prelude.{Plan};
 ghost use Rattle.members.specs.Sets.{inSet, unbroken, Shows};
 ghost use Rattle.members.specs.Lacking.{lacking, Spared};
 
-// The events at hand, without those of which a rule asks for an event that is not at hand, once over the rules. The last
-// rule comes first: so a chain of needs, as it is mostly written down, falls in one pass.
+// The events at hand, less those for which a rule asks for an event that is not at hand: one pass over the rules. The
+// last rule comes first, so that one pass drops a chain of needs as it is mostly written down.
 pub fn spare(rules: [RuleLine; 16], broken: [bool; 16], count: u8, view: View, hand: u16) -> u16
     ensures { λ r. ⌜ ((p : Plan) (f : Fates) → p .rules ≡ rules → ruleCount p ≡ count → Shows p f view → Spared p (unbroken broken) f (inSet hand) (inSet r)) ⌝ }
 {
@@ -34,7 +34,7 @@ pub fn spare(rules: [RuleLine; 16], broken: [bool; 16], count: u8, view: View, h
     able
 }
 
-// The events without the one of which the rule asks for an event that is neither among them nor settled.
+// The events, less the one for which the rule asks for an event that is neither among them nor settled.
 fn drop_lacking(able: u16, rule: Rule, view: View) -> u16
     ensures { λ r. ⌜ ((p : Plan) (f : Fates) → Shows p f view → (x : ℕ) → inSet r x ≡ (inSet able x && not (lacking p f (inSet able) rule x))) ⌝ }
 {

@@ -1,4 +1,4 @@
-// What one rule reckons with, forbids and owes, by the sets of a view.
+// What one rule counts as done, forbids and owes, by the sets of a view.
 use super::set::is_in;
 use super::view::View;
 use plan::rule::Rule;
@@ -45,15 +45,15 @@ pub fn does_owe(rule: Rule, view: View) -> bool
     }
 }
 
-// Does a conditional that calls for c reckon with its trigger: is that done, or can nothing stop it, and c not be
-// forced (6.9)?
+// Does the trigger count as done for a conditional with this c: is it done, or is it open and unstoppable and c not
+// forcible (6.9)?
 pub fn is_reckoned(view: View, c: u8, trigger: u8) -> bool
     ensures { λ r. ⌜ ((p : Plan) (f : Fates) → Shows p f view → r ≡ reckoned p f c trigger) ⌝ }
 {
     is_in(view.done, trigger) | is_pending(view, c, trigger)
 }
 
-// Can nothing stop the trigger, and c not be forced when it comes?
+// Is the trigger open and unstoppable, and c not forcible?
 pub fn is_pending(view: View, c: u8, trigger: u8) -> bool
     ensures { λ r. ⌜ ((p : Plan) (f : Fates) → Shows p f view → r ≡ (unstoppable p f trigger && not (forcible p c))) ⌝ }
 {

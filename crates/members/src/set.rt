@@ -17,7 +17,7 @@ pub fn is_in(set: u16, event: u8) -> bool
     }
 }
 
-// The set with one event more, where told to; past the places there is none.
+// The set with one event more, if `is` is true; an event past the 16 places is not added.
 pub fn with_if(set: u16, event: u8, is: bool) -> u16
     ensures { λ r. ⌜ ((x : ℕ) → inSet r x ≡ ((eqb x event && (ltb event 16 && is)) || inSet set x)) ⌝ }
 {

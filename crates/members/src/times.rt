@@ -12,7 +12,7 @@ pub struct Times {
     pub late: u16,
 }
 
-// One pass over the windows. Without any, all sixteen events are timely, and none is late.
+// One pass over the windows. If there are none, all sixteen events are in time, and none is late.
 pub fn times_of(windows: [Window; 16], minute: u32) -> Times
     ensures { λ r. ⌜ Clocks windows minute r ⌝ }
 {

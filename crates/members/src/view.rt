@@ -19,9 +19,9 @@ ghost use Rattle.orders.specs.Runs.{doing};
 ghost use Rattle.members.specs.Prelude.{Plan};
 ghost use Rattle.members.specs.Sets.{Shows, Tells};
 
-// The declared events that are held, the declared ones at hand (held, or open and forcible), those that are done,
-// those refused or lapsed, those that may wait, those that are no more open, or can be refused or wait (all but the
-// ones that nothing can stop), and those that can be forced.
+// Sets of events: the declared ones that are held; the declared ones at hand (held, or open and forcible); those that
+// are done; those refused or lapsed; the delayable ones; the stoppable ones (not open, or rejectable, or delayable);
+// and the forcible ones.
 pub struct View {
     pub held: u16,
     pub able: u16,
@@ -32,7 +32,8 @@ pub struct View {
     pub forcible: u16,
 }
 
-// The view of a plan's events and their fates; past the count nothing is held or at hand. All sixteen places are 65535.
+// The view of a plan's events and their fates. Past the count nothing is held or at hand. The set of all sixteen places
+// is 65535.
 pub fn view_of(events: [Event; 16], count: u8, standings: [Standing; 16]) -> View
     ensures { λ r. ⌜ ((p : Plan) → p .events ≡ events → eventCount p ≡ count → Shows p (fatesOf standings) r) ⌝ }
 {
@@ -54,8 +55,8 @@ pub fn view_of(events: [Event; 16], count: u8, standings: [Standing; 16]) -> Vie
     }
 }
 
-// What single fates and attributes say of the sixteen events: those held, open, and refused or lapsed; those that may
-// wait, those that can be forced, and those that can be refused.
+// What single fates and attributes say of the sixteen events: those held, open, and refused or lapsed; the delayable,
+// the forcible and the rejectable ones.
 struct Facts {
     pub held: u16,
     pub comes: u16,

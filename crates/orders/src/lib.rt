@@ -1,1 +1,2 @@
-// No code: what has to be done together with an event, and the order in which it is done, over a plan and fates.
+// No code: the events that have to be done together with one, and the order in which they are done, by a plan and
+// fates.

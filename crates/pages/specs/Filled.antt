@@ -5,6 +5,6 @@ use Prim.Native.Nat.{ℕ}
 use lib.Dec.{leb}
 use lib.ListN.{length, drop}
 
--- the text, and the buffer's own bytes beyond it; a buffer too short keeps its bytes
+-- the text, then the buffer's own bytes beyond it; a buffer that is too short keeps its bytes
 unfoldable pub filled : List ℕ → List ℕ → List ℕ
 filled text out = elim (leb (length text) (length out)) [ true ↦ text ++ drop (length text) out | false ↦ out ]

@@ -20,8 +20,8 @@ pub fn fill(text: &[u8], out: &mut [u8])
     }
 }
 
-// Puts bytes into a page from an offset on and answers where they end. Where the page has no room for them it stays as it
-// is, and the offset is answered.
+// Puts bytes into a page from an offset on and answers where they end. If the page has no room for them, it stays as it
+// is, and the offset is the answer.
 pub fn put_bytes(page: &mut [u8; MOST], at: usize, bytes: &[u8]) -> usize
     ensures end { λ r. ⌜ r ≡ endAfter at (now (bytes .entry)) ⌝ }
     ensures page { λ _. ⌜ now (page .exit) ≡ pageAfter (now (page .entry)) at (now (bytes .entry)) ⌝ }

@@ -1,4 +1,5 @@
--- Tests over the numbers below a bound, the first number that gives something, and arrays read and written totally.
+-- Tests over the numbers below a bound, the first number that gives a result, and arrays that can be read and written
+-- at any index.
 use Rattle.plan.specs.Prelude.{ℕ, zero, suc, _+_, Bool, true, false, _&&_, _||_, cond, List, [], _∷_, Option, none, some, eqb, ltb, getD, set}
 
 -- some i < n passes the test
@@ -25,7 +26,7 @@ unfoldable pub thoseBelow : ℕ → (ℕ → Bool) → List ℕ
 thoseBelow zero t = []
 thoseBelow (suc n) t = elim (t n) [ true ↦ n ∷ thoseBelow n t | false ↦ thoseBelow n t ]
 
--- x stands in the list
+-- x is in the list
 unfoldable pub among : ℕ → List ℕ → Bool
 among x [] = false
 among x (y ∷ ys) = eqb x y || among x ys
@@ -35,27 +36,27 @@ module _ {A : Type 0} where
   orElse none b = b
   orElse (some a) b = some a
 
-  -- the value where the test passes
+  -- the value if the test passes, else none
   abbrev pub when : Bool → Option A → Option A
   when true a = a
   when false a = none
 
-  -- what g gives at the first of the n numbers i, i + 1, .. at which it gives something
+  -- the result of g at the first of the n numbers i, i + 1, .. that has one
   unfoldable pub firstOf : ℕ → ℕ → (ℕ → Option A) → Option A
   firstOf zero i g = none
   firstOf (suc n) i g = let later = firstOf n (suc i) g in orElse (g i) later
 
-  -- g i, g (i + 1), .. : n of them
+  -- the list of g i, g (i + 1), .., with n elements
   unfoldable pub tabulate : ℕ → ℕ → (ℕ → A) → List A
   tabulate zero i g = []
   tabulate (suc n) i g = g i ∷ tabulate n (suc i) g
 
-  -- element i of an array of n elements, and the default past its end. The bound is a test, so that no length has to
-  -- be known
+  -- element i of an array of n elements, or the default if i is past its end. The bound is tested, so that nothing has
+  -- to be known of the list's length
   abbrev pub readAt : ℕ → List A → ℕ → A → A
   readAt n l i d = cond (ltb i n) (getD l i d) d
 
-  -- the array with a at i, and as it was where i is past its end
+  -- the array with a stored at i, or unchanged if i is past its end
   abbrev pub storeAt : ℕ → List A → ℕ → A → List A
   storeAt n l i a = cond (ltb i n) (set l i a) l
 

@@ -2,14 +2,15 @@
 use Rattle.plan.specs.Prelude.{ℕ, Bool, true, false, _||_, List, eqb, Fate, Open, Held, Done, Refused, Lapsed, Forced, Standing}
 use Rattle.plan.specs.Base.{readAt}
 
--- which fate it is (5.1)
+-- the fate is open (5.1)
 abbrev pub isOpen : Fate → Bool
 isOpen x = elim x [ Open ↦ true | Held ↦ false | Done ↦ false | Refused ↦ false | Lapsed ↦ false | Forced ↦ false ]
 
+-- the fate is held (5.1)
 abbrev pub isHeld : Fate → Bool
 isHeld x = elim x [ Open ↦ false | Held ↦ true | Done ↦ false | Refused ↦ false | Lapsed ↦ false | Forced ↦ false ]
 
--- done, or forced, which counts as done (5.2, 5.29)
+-- done or forced: forced counts as done (5.2, 5.29)
 abbrev pub isDone : Fate → Bool
 isDone x = elim x [ Open ↦ false | Held ↦ false | Done ↦ true | Refused ↦ false | Lapsed ↦ false | Forced ↦ true ]
 
@@ -17,21 +18,23 @@ isDone x = elim x [ Open ↦ false | Held ↦ false | Done ↦ true | Refused �
 abbrev pub isGone : Fate → Bool
 isGone x = elim x [ Open ↦ false | Held ↦ false | Done ↦ false | Refused ↦ true | Lapsed ↦ true | Forced ↦ false ]
 
+-- done, forced, refused or lapsed (5.2)
 abbrev pub isSettled : Fate → Bool
 isSettled x = isDone x || isGone x
 
--- how an order settles an event: by force if it is open when its turn comes (7.12)
+-- the fate that an order gives an event: forced if the event is open when its turn comes, else done (7.12)
 abbrev pub doneAs : Bool → Fate
 doneAs true = Forced
 doneAs false = Done
 
+-- the number of a fate (5.9)
 abbrev pub fateNumber : Fate → ℕ
 fateNumber x = elim x [ Open ↦ 0 | Held ↦ 1 | Done ↦ 2 | Refused ↦ 3 | Lapsed ↦ 4 | Forced ↦ 5 ]
 
 abbrev pub sameFate : Fate → Fate → Bool
 sameFate x y = eqb (fateNumber x) (fateNumber y)
 
--- what stands in an unused place (5.4)
+-- what an unused place holds (5.4)
 abbrev pub blankStanding : Standing
 blankStanding = record { fate = Open }
 

@@ -1,7 +1,7 @@
 -- Why a sheet or a call is turned down, what a call answers, and the first row of a table that applies.
 use Rattle.plan.specs.Prelude.{ℕ, Bool, true, false, List, [], _∷_, Option, none, some, SheetFault, Cut, BadKind, Full, BadStep, BadAttributes, BadNames, Unenforceable, Extra, BadWindow, CallFault, Unknown, AlreadyClosed, NotClosed, Incoherent, TooLong, NoRoom, Backward, Answer, Is, Made, TurnedDown, FateAnswered}
 
--- the numbers that the table gives: for a sheet, and for a call (4.2)
+-- the number of each fault for which a sheet is turned down (4.2)
 abbrev pub sheetFaultNumber : SheetFault → ℕ
 sheetFaultNumber f = elim f [
   | Cut ↦ 1
@@ -15,6 +15,7 @@ sheetFaultNumber f = elim f [
   | BadWindow ↦ 15
 ]
 
+-- the number of each fault for which a call, a batch, a preview or a writing is turned down (10.2, 10.7 to 10.9)
 abbrev pub callFaultNumber : CallFault → ℕ
 callFaultNumber f = elim f [
   | Unknown ↦ 9
@@ -26,11 +27,11 @@ callFaultNumber f = elim f [
   | Backward ↦ 16
 ]
 
--- an answer's number: the fault's where the call is turned down, and 0 where it is taken (9.6)
+-- an answer's number: that of the fault if the call is turned down, 0 if it is accepted (9.6)
 abbrev pub answerNumber : Answer → ℕ
 answerNumber a = elim a [ Is x ↦ 0 | Made ↦ 0 | TurnedDown f ↦ callFaultNumber f ]
 
--- its value: a hand-in that is taken answers a fate (9.6)
+-- an answer's fate: an accepted submit (hand in) answers one, and no other answer has one (9.6)
 abbrev pub answerFate : Answer → FateAnswered
 answerFate a = elim a [
   | Is x ↦ FateAnswered.Is x
@@ -41,7 +42,7 @@ answerFate a = elim a [
 abbrev pub isTurnedDown : Answer → Bool
 isTurnedDown a = elim a [ Is x ↦ false | Made ↦ false | TurnedDown f ↦ true ]
 
--- a table's row: a condition and its fault; the first row whose condition holds counts (4.2, 10.2)
+-- a row of a table is a condition and its fault; the first row whose condition holds decides (4.2, 10.2)
 unfoldable pub firstFault : {F : Type 0} → List (Bool × F) → Option F
 firstFault [] = none
 firstFault (r ∷ rs) = elim (r .0) [ true ↦ some (r .1) | false ↦ firstFault rs ]

@@ -1,8 +1,8 @@
--- Histories: what their lines say of events, and when a rule holds of one.
+-- Histories: what their lines say of events, and when a rule holds of a history.
 use Rattle.plan.specs.Prelude.{ℕ, Bool, true, false, not, _&&_, _||_, List, [], _∷_, _++_, eqb, ltb, Fate, Open, Rule, Order, Need, Conditional, Entry}
 use Rattle.plan.specs.Fates.{isDone, isSettled, sameFate}
 
--- what stands in an unused place
+-- what an unused place holds
 abbrev pub blankEntry : Entry
 blankEntry = record { event = 0; fate = Open }
 
@@ -23,15 +23,15 @@ anyDone (x ∷ xs) = isDone x || anyDone xs
 unfoldable pub doneIn : List Entry → ℕ → Bool
 doneIn h e = anyDone (fatesIn h e)
 
--- a is done in the history and b is done after it (6.8)
+-- a is done in the history, and b is done on a later line (6.8)
 unfoldable pub doneInTurn : List Entry → ℕ → ℕ → Bool
 doneInTurn [] a b = false
 doneInTurn (l ∷ ls) a b =
     (eqb (l .event) a && isDone (l .fate) && doneIn ls b)
     || doneInTurn ls a b
 
--- the rule is kept by what the history says was done: an order is broken by its b before its a, a need by its a
--- without its b, a conditional by both triggers without its c (6.8)
+-- the rule holds of the history. An order is broken if b is done before a, a need if a is done without b, a conditional
+-- if both triggers are done without c (6.8)
 unfoldable pub holds : List Entry → Rule → Bool
 holds h (Order a b) = not (doneInTurn h b a)
 holds h (Need a b) = not (doneIn h a && not (doneIn h b))
@@ -48,6 +48,6 @@ sameFates [] (y ∷ ys) = false
 sameFates (x ∷ xs) [] = false
 sameFates (x ∷ xs) (y ∷ ys) = sameFate x y && sameFates xs ys
 
--- the history lists e once, with its fate, if it is settled, and else not (10.4)
+-- if e is settled, the history has exactly one line of e, with its fate; otherwise it has none (10.4)
 unfoldable pub listedAs : List Entry → ℕ → Fate → Bool
 listedAs h e x = sameFates (fatesIn h e) (fateIf (isSettled x) x)

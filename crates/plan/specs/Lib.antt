@@ -1,4 +1,5 @@
--- What has to be believed of a plan: its definitions, lowest first; `Internal` is for private functions.
+-- The definitions of a plan that a reader has to believe; each file stands before those that use it. `Internal` is for
+-- private functions.
 pub mod Prelude
 pub mod Base
 pub mod Fates

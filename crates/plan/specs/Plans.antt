@@ -1,8 +1,8 @@
--- What a sheet declares: events with their step and attributes, and rules.
+-- What a sheet declares: events with their step and attributes, rules, and windows.
 use Rattle.plan.specs.Prelude.{ℕ, _/_, _%_, Bool, not, _&&_, _||_, eqb, ltb, leb, replicate, Event, Rule, Order, RuleLine, Window, Plan}
 use Rattle.plan.specs.Base.{anyBelow, readAt}
 
--- what stands in an unused place
+-- what an unused place holds
 abbrev pub blankEvent : Event
 blankEvent = record { step = 0; attributes = 0 }
 
@@ -50,7 +50,7 @@ fromOf p e = windowAt p e .from
 abbrev pub untilOf : Plan → ℕ → ℕ
 untilOf p e = windowAt p e .until
 
--- attributes are a sum of 1 (forcible), 2 (rejectable) and 4 (delayable): whether k is one of its terms (2.3)
+-- the attributes n are a sum of 1 (forcible), 2 (rejectable) and 4 (delayable), and k is one of its terms (2.3)
 abbrev pub holdsBit : ℕ → ℕ → Bool
 holdsBit k n = eqb (n / k % 2) 1
 
@@ -63,25 +63,27 @@ rejectable p e = holdsBit 2 (attributesOf p e)
 abbrev pub delayable : Plan → ℕ → Bool
 delayable p e = holdsBit 4 (attributesOf p e)
 
--- what stands in an event's place is a window (2.10)
+-- an event's place holds a window (2.10)
 abbrev pub isWindow : Window → Bool
 isWindow w = not (eqb (w .until) 0)
 
 abbrev pub hasWindow : Plan → ℕ → Bool
 hasWindow p e = isWindow (windowAt p e)
 
--- what has this window may be done, or forced, at minute m: there is none, or the minute lies in it (2.11)
+-- an event with this window may be done or forced at minute m: the place holds no window, or the minute lies in it
+-- (2.11)
 unfoldable pub allowedIn : Window → ℕ → Bool
 allowedIn w m = not (isWindow w) || (leb (w .from) m && ltb m (w .until))
 
--- it is over at minute m (2.11)
+-- the window is over at minute m (2.11)
 unfoldable pub overIn : Window → ℕ → Bool
 overIn w m = isWindow w && leb (w .until) m
 
--- of an event (2.11)
+-- the event may be done or forced at minute m (2.11)
 unfoldable pub allowedAt : Plan → ℕ → ℕ → Bool
 allowedAt p m e = allowedIn (windowAt p e) m
 
+-- the event's window is over at minute m (2.11)
 unfoldable pub overAt : Plan → ℕ → ℕ → Bool
 overAt p m e = overIn (windowAt p e) m
 

@@ -1,4 +1,4 @@
--- The names that the definitions use: the library's, passed on as they are, and the types that the code declares.
+-- The names that the definitions use: those of the library, passed on unchanged, and the types that the code declares.
 pub use Prim.Native.Nat.{ℕ, zero, suc, _+_, _*_, _/_, _%_, _≤_, _<_}
 pub use mathlib.Core.Bool.{Bool, true, false, not, _&&_, _||_, cond}
 pub use mathlib.Core.List.{List, [], _∷_, _++_}

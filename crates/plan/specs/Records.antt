@@ -1,37 +1,40 @@
--- A sheet's records: their bytes, what they declare, and the table's rows for them.
+-- A sheet's records: their bytes, what they declare, and the tests that turn them down.
 use Rattle.plan.specs.Prelude.{ℕ, _+_, _*_, Bool, true, false, not, _&&_, _||_, List, [], _∷_, Option, eqb, ltb, leb, getD, Rule, Order, Need, Conditional, Plan, Record, SheetFault, Cut, BadKind, Full, BadStep, BadAttributes, BadNames, Unenforceable, BadWindow}
 use Rattle.plan.specs.Base.{storeAt}
 use Rattle.plan.specs.Plans.{eventCount, ruleCount}
 use Rattle.plan.specs.Rules.{badStep, badAttributes, badWindow, named, enforceable}
 use Rattle.plan.specs.Faults.{firstFault}
 
--- by kind, 1 to 7: the length of the body, and how many events and rules it declares (3.2)
+-- the length of a record's body, by its kind, 1 to 7 (3.2)
 abbrev pub bodyLength : ℕ → ℕ
 bodyLength k = getD (0 ∷ 2 ∷ 2 ∷ 2 ∷ 3 ∷ 0 ∷ 1 ∷ 9 ∷ []) k 0
 
+-- how many events a record declares, by its kind (3.2)
 abbrev pub newEvents : ℕ → ℕ
 newEvents k = getD (0 ∷ 1 ∷ 0 ∷ 0 ∷ 0 ∷ 0 ∷ 4 ∷ []) k 0
 
+-- how many rules a record declares, by its kind (3.2)
 abbrev pub newRules : ℕ → ℕ
 newRules k = getD (0 ∷ 0 ∷ 1 ∷ 1 ∷ 1 ∷ 0 ∷ 0 ∷ []) k 0
 
 abbrev pub isRule : ℕ → Bool
 isRule k = eqb (newRules k) 1
 
--- four bytes as a number, the lowest first (3.5)
+-- four bytes as a number, the lowest byte first (3.5)
 abbrev pub wordOf : ℕ → ℕ → ℕ → ℕ → ℕ
 wordOf a b c d = a + 256 * (b + 256 * (c + 256 * d))
 
+-- the number in the four bytes from an offset on (3.5)
 abbrev pub wordAt : List ℕ → ℕ → ℕ
 wordAt b at = wordOf (getD b at 0) (getD b (at + 1) 0) (getD b (at + 2) 0) (getD b (at + 3) 0)
 
--- the number at an offset in a record of kind 7; a record of any other kind has none, and 0 stands for it (3.2, 3.5)
+-- the number at an offset in a record of kind 7; for a record of another kind, 0 (3.2, 3.5)
 abbrev pub numberAt : ℕ → List ℕ → ℕ → ℕ
 numberAt k b at = elim (eqb k 7) [ true ↦ wordAt b at | false ↦ 0 ]
 
--- the record at an offset: its kind, the three bytes after it, and the two numbers after the first of these; bytes past
--- the end are 0 (3.1, 3.5). No such 0 is ever part of what is declared: a record that is not turned down lies whole
--- within the sheet (`faultless` in FaultlessRecords, field `whole`; the rows on number 1 in `judged`)
+-- the record at an offset: its kind, the three bytes after it, and the two numbers after the first of these. Bytes past
+-- the end are read as 0 (3.1, 3.5). A sheet never declares such a 0: a record that is not turned down lies whole within
+-- the sheet (`faultless` in FaultlessRecords, field `whole`; the rows on number 1 in `judged`)
 abbrev pub recordAt : List ℕ → ℕ → Record
 recordAt b at = record {
   kind = getD b at 0;
@@ -42,7 +45,7 @@ recordAt b at = record {
   until = numberAt (getD b at 0) b (at + 6);
 }
 
--- 2: order; 3: need; 4: conditional (3.2)
+-- the rule of a record: kind 2 is an order, 3 a need, 4 a conditional (3.2)
 unfoldable pub ruleOf : Record → Rule
 ruleOf r = elim (eqb (r .kind) 2) [
   | true ↦ Order (r .x) (r .y)
@@ -52,7 +55,7 @@ ruleOf r = elim (eqb (r .kind) 2) [
   ]
 ]
 
--- the next event, and the next rule (2.2)
+-- adds an event, which gets the next number (2.2)
 unfoldable pub addEvent : Plan → ℕ → ℕ → Plan
 addEvent p k a = record {
   events = storeAt 16 (p .events) (eventCount p) (record { step = k; attributes = a });
@@ -62,6 +65,7 @@ addEvent p k a = record {
   windows = p .windows;
 }
 
+-- adds a rule, which gets the next number (2.5)
 unfoldable pub addRule : Plan → Rule → Plan
 addRule p r = record {
   events = p .events;
@@ -71,7 +75,7 @@ addRule p r = record {
   windows = p .windows;
 }
 
--- the window of an event (2.10)
+-- gives an event its window (2.10)
 unfoldable pub addWindow : Plan → ℕ → ℕ → ℕ → Plan
 addWindow p e from until = record {
   events = p .events;
@@ -81,15 +85,16 @@ addWindow p e from until = record {
   windows = storeAt 16 (p .windows) e (record { from = from; until = until });
 }
 
--- start, prepare, commit, abort (2.9)
+-- the attributes of start, prepare, commit and abort (2.9)
 abbrev pub table1 : List ℕ
 table1 = 7 ∷ 0 ∷ 6 ∷ 1 ∷ []
 
+-- adds events of step k, one for each value in a list of attributes (3.2)
 unfoldable pub addEvents : Plan → ℕ → List ℕ → Plan
 addEvents p k [] = p
 addEvents p k (a ∷ more) = addEvents (addEvent p k a) k more
 
--- what a record declares (3.2)
+-- the plan with what a record declares (3.2)
 unfoldable pub declare : Plan → Record → Plan
 declare p r = elim (eqb (r .kind) 1) [
   | true ↦ addEvent p (r .x) (r .y)
@@ -102,7 +107,8 @@ declare p r = elim (eqb (r .kind) 1) [
   ]
 ]
 
--- the table's rows for the record at an offset of a sheet of some length, in the order of the tests (4.2, 4.3)
+-- the first fault of a record, by the tests of the table in their order. The sheet has `len` bytes, and the record
+-- begins at offset `at` (4.2, 4.3)
 unfoldable pub recordFault : Plan → ℕ → ℕ → Record → Option SheetFault
 recordFault p len at r =
     firstFault (

@@ -1,15 +1,15 @@
--- Reading a sheet's plan.
+-- Reading the plan of a sheet.
 use Rattle.plan.specs.Prelude.{ℕ, zero, suc, _+_, true, false, List, none, some, eqb, ltb, getD, length, Plan, SheetFault, Cut, Extra}
 use Rattle.plan.specs.Plans.{emptyPlan}
 use Rattle.plan.specs.Records.{bodyLength, recordAt, declare, recordFault}
 
--- a plan and the offset after its kind 5, or the first fault and its offset (3.4, 4.1)
+-- a plan and the offset after its record of kind 5, or the first fault and its offset (3.4, 4.1)
 pub data PlanReading : Type 0 where
   whole : Plan → ℕ → PlanReading
   faulty : SheetFault → ℕ → PlanReading
 
--- record after record from an offset on, up to kind 5 or the first fault. At most n records; `readPlan` has enough
--- (3.3, 4.1)
+-- reads record after record from an offset on, up to kind 5 or the first fault. It reads at most n records; `readPlan`
+-- allows enough (3.3, 4.1)
 unfoldable pub readFrom : ℕ → List ℕ → ℕ → Plan → PlanReading
 readFrom zero b at p = faulty Cut at
 readFrom (suc n) b at p = elim (recordFault p (length b) at (recordAt b at)) [
@@ -23,7 +23,7 @@ readFrom (suc n) b at p = elim (recordFault p (length b) at (recordAt b at)) [
 unfoldable pub readPlan : List ℕ → PlanReading
 readPlan b = readFrom (length b + 1) b 0 emptyPlan
 
--- a sheet is its plan and no more: a byte after kind 5 is a fault, at its own offset (4.2)
+-- nothing may follow a plan in its sheet: a byte after kind 5 is a fault, at the offset of that byte (4.2)
 unfoldable pub ending : List ℕ → PlanReading → PlanReading
 ending b (whole p at) = elim (ltb at (length b)) [ true ↦ faulty Extra at | false ↦ whole p at ]
 ending b (faulty f at) = faulty f at

@@ -14,7 +14,7 @@ pub enum SheetFault {
     BadWindow,
 }
 
-// Why a call is turned down, in the order of the numbers 9 to 14 and 16; 13 and 14 are a batch's and a lent buffer's.
+// Why a call is turned down, in the order of the numbers 9 to 14 and 16; 13 is for a batch, and 14 for a lent buffer.
 pub enum CallFault {
     Unknown,
     AlreadyClosed,
@@ -25,20 +25,20 @@ pub enum CallFault {
     Backward,
 }
 
-// What a call answers: a hand-in the event's fate, the others that they were made.
+// What a call answers: a submit (hand in) the event's fate, any other call that it was made.
 pub enum Answer {
     Is(Fate),
     Made,
     TurnedDown(CallFault),
 }
 
-// The fate that an answer gives: a hand-in that is taken answers one, nothing else does.
+// The fate that an answer gives: an accepted submit answers one, nothing else does.
 pub enum FateAnswered {
     Is(Fate),
     Nothing,
 }
 
-// What reading a sheet comes to: admitted, or the fault and its offset.
+// What reading a sheet gives: it is admitted, or the fault and its offset.
 pub enum Verdict {
     Admitted,
     Faulty(SheetFault, usize),

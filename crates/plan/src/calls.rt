@@ -1,6 +1,6 @@
 // Calls as data, and their records: 16 and an event, 17 and a step, 18, or 19 and a minute.
 
-// Hand in an event, close a step, wind up, move the minute.
+// Submit (hand in) an event, close a step, finish (wind up), advance to a minute.
 pub enum Call {
     Submit(u8),
     Close(u8),
@@ -8,8 +8,7 @@ pub enum Call {
     Advance(u32),
 }
 
-// What stands at an offset of the bytes of calls: a call's record, their end, or a record that is cut or of another
-// kind.
+// What bytes of calls hold at an offset: a call's record, their end, or a record that is cut or of another kind.
 pub enum CallRead {
     Listed(Call),
     End,

@@ -1,7 +1,7 @@
 // Fates, and the place that holds one for an event.
 
-// Where an event is: still to come, waiting, or settled in one of four ways (5.1, 5.2). Forced is done by force, while it
-// was open.
+// Where an event is: still to come, waiting, or settled in one of four ways (5.1, 5.2). A forced event was open when
+// the scheduler did it.
 pub enum Fate {
     Open,
     Held,

@@ -1,5 +1,5 @@
-// What a sheet declares, what rules say of it and of the fates of its events, and the formats of sheets and calls:
-// types alone. The definitions stand in specs/, the functions in `checks`.
+// Types alone: what a sheet declares, rules, the fates of events, and the formats of sheets and calls. The definitions
+// are in specs/, the functions in `checks`.
 pub mod answer;
 pub mod calls;
 pub mod event;

@@ -3,7 +3,7 @@ use super::event::Event;
 use super::rule::RuleLine;
 use super::window::Window;
 
-// Events with their step and attributes, rules, and a window for each event. No call changes it.
+// Events with their step and attributes, rules, and a window for each event. No call changes a plan.
 pub struct Plan {
     pub event_count: u8,
     pub windows: [Window; 16],

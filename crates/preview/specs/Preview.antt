@@ -1,4 +1,4 @@
--- A preview: the settlements that handing an event in would add to the history, counted by fate.
+-- A preview: the lines that a submit (hand in) would add to the history, counted by fate.
 use Prim.Native.Nat.{ℕ, _+_}
 use mathlib.Core.Bool.{false}
 use mathlib.Core.List.{List, [], _∷_, _++_}
@@ -10,7 +10,7 @@ use Rattle.plan.specs.Fates.{isOpen, sameFate}
 use Rattle.scheduler.specs.State.{fateOf, lineCount, lines}
 use Rattle.scheduler.specs.Answers.{call}
 
--- the lines that a call adds to the history: those after as many as it had (9.16)
+-- the lines that a call adds to the history: those beyond as many as it had before (9.16)
 abbrev pub addedBy : State → Call → List Entry
 addedBy s c = drop (lineCount s) (lines (call s c .state))
 
@@ -19,7 +19,7 @@ unfoldable pub countOf : Fate → List Entry → ℕ
 countOf x [] = 0
 countOf x (l ∷ ls) = oneIf (sameFate (l .fate) x) + countOf x ls
 
--- lines counted by what they say (9.15)
+-- the counts of lines, by fate (9.15)
 abbrev pub countsIn : List Entry → Counts
 countsIn ls = record {
   done = countOf Done ls;
@@ -28,19 +28,20 @@ countsIn ls = record {
   forced = countOf Forced ls;
 }
 
--- all of them together (11.15)
+-- the sum of the counts (11.15)
 abbrev pub total : Counts → ℕ
 total c = c .done + c .refused + c .lapsed + c .forced
 
--- what a preview gives: why the hand-in would be turned down, or the counts of what it would add (9.15, 10.8)
+-- what a preview gives: the fault if the submit would be turned down, else the counts of the lines that it would add
+-- (9.15, 10.8)
 unfoldable pub previewOf : State → ℕ → PreviewReply
 previewOf s e =
     let counted = PreviewReply.Counted (countsIn (addedBy s (Submit e))) in
     elim (call s (Submit e) .answer) [ TurnedDown f ↦ PreviewReply.TurnedDown f | Is x ↦ counted | Made ↦ counted ]
 
--- what holds of a preview and the hand-in that it is of: the history after that one is the history before it with the lines
--- added; where the preview gives counts, they are these lines', their sum is how many lines the history grows by, and none
--- says lapsed; the hand-in of an event that isn't open adds none (11.15)
+-- what is true of a preview and its submit. The history after the submit is the one before it with the added lines. If
+-- the preview gives counts, they are those of the added lines. The history grows by their sum. No added line says
+-- lapsed. The submit of an event that is not open adds none (11.15)
 pub record Foretold (s : State) (e : ℕ) : Type 0 where
   pub history : lines (call s (Submit e) .state) ≡ lines s ++ addedBy s (Submit e)
   pub counts : (c : Counts) → previewOf s e ≡ PreviewReply.Counted c → c ≡ countsIn (addedBy s (Submit e))

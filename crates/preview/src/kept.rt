@@ -7,7 +7,8 @@ use image::test::is_image;
 ghost use mathlib.Core.Path.{_≡_};
 ghost use Rattle.preview.specs.Kept.{previewNumber, writtenBy, previewNumberOn, countsOn};
 
-// Writes the counts of the event's preview and answers 0; or answers the hand-in's own number, and writes nothing.
+// Writes the counts of the event's preview and answers 0; or answers the number of the submit (hand in) itself, and
+// writes nothing.
 pub fn preview_on(image: &[u8; 384], event: u8, added: &mut [u8; 4]) -> u8
     ensures number { λ r. ⌜ r ≡ previewNumberOn (now (image .entry)) event ⌝ }
     ensures counts { λ _. ⌜ now (added .exit) ≡ countsOn (now (image .entry)) event (now (added .entry)) ⌝ }

@@ -1,4 +1,4 @@
-// What handing an event in would settle, counted by fate, on a state and on a kept one; nothing is written but the counts.
-// The definitions stand in specs/.
+// What a submit (hand in) would settle, counted by fate, on a state and on a kept one. Only the counts are written. The
+// definitions are in specs/.
 pub mod kept;
 pub mod preview;

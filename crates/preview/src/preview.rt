@@ -1,4 +1,5 @@
-// A preview of a hand-in: it is made on a copy of the state, and the lines that it adds to the history are counted by fate.
+// A preview of a submit (hand in): the submit is made on a copy of the state, and the lines that it adds to the history
+// are counted by fate.
 use checks::fate::is_same;
 use checks::history::lines_in;
 use plan::answer::Answer;
@@ -18,13 +19,13 @@ pub struct Counts {
     pub forced: u8,
 }
 
-// What a preview gives: the counts, or why the hand-in would be turned down.
+// What a preview gives: the counts, or why the submit would be turned down.
 pub enum PreviewReply {
     Counted(Counts),
     TurnedDown(CallFault),
 }
 
-// What handing the event in would settle. The state is the caller's still, as it was.
+// What the submit of the event would settle. The caller's state stays as it was.
 pub fn preview(state: State, event: u8) -> PreviewReply
     ensures { λ r. ⌜ r ≡ previewOf state event ⌝ }
 {
@@ -50,7 +51,7 @@ fn count_lines(history: [Entry; 16], from: u8, to: u8) -> Counts
     }
 }
 
-// Those of them that say this fate.
+// How many of these lines say this fate.
 fn count_fate(history: [Entry; 16], from: u8, to: u8, fate: Fate) -> u8
     ensures { λ r. ⌜ r ≡ countOf fate (drop from (take to history)) ⌝ }
 {

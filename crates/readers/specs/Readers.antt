@@ -1,5 +1,5 @@
--- What a reader of the state answers. An event, a rule or a line is declared if its number is below its count and
--- below 16, a step if it is at most 7; an undeclared number has an answer of its own, which is not "open".
+-- What the readers of a state answer. An event, a rule or a line is declared if its number is below its count and below
+-- 16, a step if it is at most 7. An undeclared number has an answer of its own, which is not "open".
 use Prim.Native.Nat.{ℕ}
 use mathlib.Core.Bool.{Bool, _&&_, cond}
 use lib.Dec.{ltb}
@@ -14,7 +14,7 @@ use Rattle.readers.specs.declared.RuleRead.{RuleRead}
 use Rattle.readers.specs.declared.EntryRead.{EntryRead}
 use Rattle.readers.specs.declared.Mark.{Mark}
 
--- the number i is below its count and below 16 (5.8)
+-- i is below the count n and below 16 (5.8)
 abbrev pub declaredBelow : ℕ → ℕ → Bool
 declaredBelow n i = ltb i n && ltb i 16
 

@@ -1,4 +1,4 @@
-// What a caller reads of a state. An undeclared number answers so, and never "open".
+// What a caller can read of a state. An undeclared number is answered as undeclared, never as "open".
 use checks::fate::is_held;
 use plan::event::Event;
 use plan::fate::Fate;

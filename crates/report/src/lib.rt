@@ -12,7 +12,7 @@ ghost use lib.ListN.{length};
 ghost use Rattle.scheduler.specs.Runner.{report};
 ghost use Rattle.pages.specs.Filled.{filled};
 
-// Writes the report to the start of the buffer and answers its length; a buffer too short keeps its bytes.
+// Writes the report to the start of the buffer and answers its length; a buffer that is too short keeps its bytes.
 pub fn write_report(outcome: Outcome, out: &mut [u8]) -> usize
     ensures length { λ r. ⌜ r ≡ length (report outcome) ⌝ }
     ensures bytes { λ _. ⌜ now (out .exit) ≡ filled (report outcome) (now (out .entry)) ⌝ }

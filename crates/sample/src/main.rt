@@ -1,5 +1,5 @@
-// Runs the reader of sheets, the search, single calls and the readers of a state on small sheets and prints what
-// comes of each: the gate compares it with the file `stdout`.
+// Runs the reader of sheets, the search, single calls and the readers of a state on small sheets and prints what each
+// gives. The gate compares this with the file `stdout`.
 use checks::answer::call_fault_number;
 use checks::answer::sheet_fault_number;
 use libc::STDOUT_FILENO;
@@ -18,7 +18,7 @@ use scheduler::order::Found;
 use scheduler::reply::Reply;
 use scheduler::state::State;
 
-// What a sheet comes to.
+// What reading a sheet gives.
 fn show_reading(name: &[u8], sheet: &[u8]) {
     io::write_all(STDOUT_FILENO, name);
     let reading = sheet::read::read_sheet(sheet);
@@ -284,7 +284,7 @@ fn show_effect(name: &[u8], state: State, made: Call) {
     io::write_all(STDOUT_FILENO, b"\n");
 }
 
-// The state after a call that is taken.
+// The state after an accepted call.
 fn taken(state: State, made: Call) -> State {
     let course = state.after_call(made);
     state.with_course(course)

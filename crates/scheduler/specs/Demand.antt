@@ -1,5 +1,5 @@
--- Demand 3, of any scheduler. Its words are read off the plan, the calls and the history after each call: they cite
--- the rules and `Viable`, and neither the search nor the calls of Orders.antt and Calls.antt.
+-- The guarantee (demand 3), for any scheduler. It is read off the plan, the calls and the history after each call. It
+-- cites the rules and `Viable`, but not the search in Orders.antt and not the calls in Calls.antt.
 use Rattle.scheduler.specs.Prelude.{ℕ, _≤_, _<_, Bool, true, false, not, _&&_, _||_, List, [], _∷_, _++_, _≡_, eqb, ltb, leb, length, getD, drop}
 use Rattle.scheduler.specs.Prelude.{Fate, Open, Held, Rule, Order, Need, Conditional, Plan, Entry, State, Call, Submit, Close, Finish, Advance}
 use Rattle.plan.specs.Base.{allBelow, thoseBelow, among, tabulate}
@@ -13,10 +13,11 @@ use Rattle.scheduler.specs.Coherent.{coherent}
 use Rattle.scheduler.specs.Sheet.{readSheet, admitted}
 use Rattle.scheduler.specs.Lists.{Scheduler, after}
 
--- a list's story: each call with the history after it (11.3)
+-- a story: each call of a list, with the history after it (11.3)
 abbrev pub Story : Type 0
 Story = List (Call × List Entry)
 
+-- the story of a list of calls that a scheduler makes from s on (11.3)
 unfoldable pub seen : Scheduler → State → List Call → Story
 seen step s [] = []
 seen step s (c ∷ cs) = (c, lines (step s c)) ∷ seen step (step s c) cs
@@ -30,19 +31,21 @@ pub record Observed : Type 0 where
 abbrev pub nothingYet : Observed
 nothingYet = record { calls = []; recorded = []; history = [] }
 
--- the call hands in e; closes step k; winds up (11.6)
+-- the call submits (hands in) e (11.6)
 abbrev pub submits : ℕ → Call → Bool
 submits e (Submit d) = eqb e d
 submits e (Close k) = false
 submits e Finish = false
 submits e (Advance m) = false
 
+-- the call closes step k (11.5)
 abbrev pub closes : ℕ → Call → Bool
 closes k (Submit e) = false
 closes k (Close j) = eqb k j
 closes k Finish = false
 closes k (Advance m) = false
 
+-- the call finishes (winds up) (11.11)
 abbrev pub isFinish : Call → Bool
 isFinish (Submit e) = false
 isFinish (Close k) = false
@@ -54,17 +57,19 @@ unfoldable pub anyCall : (Call → Bool) → List Call → Bool
 anyCall t [] = false
 anyCall t (c ∷ cs) = t c || anyCall t cs
 
--- an accepted call handed e in; closed step k; wound up (11.6)
+-- an accepted call submitted e (11.6)
 abbrev pub wasSubmitted : Observed → ℕ → Bool
 wasSubmitted o e = anyCall (submits e) (o .calls)
 
+-- an accepted call closed step k (11.5)
 abbrev pub wasClosed : Observed → ℕ → Bool
 wasClosed o k = anyCall (closes k) (o .calls)
 
+-- a finish was accepted (11.11)
 abbrev pub wasFinished : Observed → Bool
 wasFinished o = anyCall isFinish (o .calls)
 
--- the minute: the one that the latest of the calls that moved it names, and 0 before them (11.6)
+-- the minute that the latest advance among the calls names; 0 if there is none. The latest call stands first (11.6)
 unfoldable pub minuteAfter : List Call → ℕ
 minuteAfter [] = 0
 minuteAfter (Submit e ∷ cs) = minuteAfter cs
@@ -76,12 +81,13 @@ abbrev pub waitsAs : Bool → Fate
 waitsAs true = Held
 waitsAs false = Open
 
--- an event's fate as the history and the accepted calls show it: its line's, else held if it was handed in, else open
--- (11.6). A line that said open or held would not settle its event; `coherent-end` says that no history has one
+-- e's fate, as the history and the accepted calls show it: that of its line; without a line, held if e was submitted,
+-- else open (11.6). A line that said open or held would not settle its event; `coherent-end` says that no history has
+-- one
 unfoldable pub observedFate : Observed → ℕ → Fate
 observedFate o e = elim (fatesIn (o .history) e) [ x ∷ xs ↦ x | [] ↦ waitsAs (wasSubmitted o e) ]
 
--- the state that shows this (11.9)
+-- the state that has just what was observed (11.9)
 unfoldable pub stateOf : Plan → Observed → State
 stateOf p o = record {
   plan = p;
@@ -93,29 +99,29 @@ stateOf p o = record {
   minute = minuteAfter (o .calls);
 }
 
--- nothing in the table stands against the call (number 12 aside, which never applies in a list) (11.4)
+-- no test of the table applies to the call; number 12 is left out, since it never applies in a list (11.4)
 unfoldable pub accepted : Plan → Observed → Call → Bool
 accepted p o (Submit e) = ltb e (eventCount p)
 accepted p o (Close k) = hasEvent p k && not (wasClosed o k)
 accepted p o Finish = allBelow 8 (λ k. not (hasEvent p k) || wasClosed o k)
 accepted p o (Advance m) = leb (minuteAfter (o .calls)) m
 
--- the first of the lines says that e was done (11.7)
+-- the first of the lines says that e is done (11.7)
 unfoldable pub startsDone : List Entry → ℕ → Bool
 startsDone [] e = false
 startsDone (l ∷ ls) e = eqb (l .event) e && isDone (l .fate)
 
--- the hand-in of e after which the history is h did e alone: e was open, had no viable order, and its being done is
--- the first new line (11.7). Shown right by `shown` of demand 3: the calls record exactly what is read off so. Without
--- the test for an order the scheduler of `not-orderless-alone` (theory/WorthlessClauses) would pass
+-- a submit of e, with history h after it, did e alone: e was open, it had no viable order, and the first new line says
+-- that e is done (11.7). Shown right by `shown` of demand 3: the calls record exactly what is read off so. Without the
+-- test for an order the scheduler of `not-orderless-alone` (theory/WorthlessClauses) would pass
 unfoldable pub doneAlone : Plan → Observed → ℕ → List Entry → Bool
 doneAlone p o e h =
     isOpen (observedFate o e)
     && startsDone (drop (length (o .history)) h) e
     && not (hasViable (hold (stateOf p o) e) e)
 
--- the rules that a hand-in which did its event alone records as broken: those that this breaks (11.8). Shown right by
--- `shown` of demand 3, and by case E, where a rule is recorded
+-- the rules that a submit of e records as broken: if it did e alone, those that this breaks, else none (11.8). Shown
+-- right by `shown` of demand 3, and by case E, where a rule is recorded
 unfoldable pub newlyRecorded : Plan → Observed → ℕ → List Entry → List ℕ
 newlyRecorded p o e h = elim (doneAlone p o e h) [
   | true ↦ thoseBelow (ruleCount p) (strains (hold (stateOf p o) e) e)
@@ -128,10 +134,11 @@ recordedBy p o (Close k) h = []
 recordedBy p o Finish h = []
 recordedBy p o (Advance m) h = []
 
--- what an accepted call shows, with the history after it; a call turned down shows its history alone (11.3)
+-- what is observed after an accepted call, with history h after it (11.3)
 abbrev pub shows : Plan → Observed → Call → List Entry → Observed
 shows p o c h = record { calls = c ∷ o .calls; recorded = recordedBy p o c h ++ o .recorded; history = h }
 
+-- what is observed after a call that is turned down: its history alone is new (11.3)
 abbrev pub onlyHistory : Observed → List Entry → Observed
 onlyHistory o h = record { calls = o .calls; recorded = o .recorded; history = h }
 
@@ -142,32 +149,33 @@ unfoldable pub observeAll : Plan → Observed → Story → Observed
 observeAll p o [] = o
 observeAll p o (x ∷ xs) = observeAll p (observe p o (x .0) (x .1)) xs
 
--- the rule is recorded as broken, or the history breaks it (11.9)
+-- the rule is recorded as broken, or does not hold of the history (11.9)
 unfoldable pub broken : Plan → Observed → ℕ → Bool
 broken p o i = among i (o .recorded) || not (holds (o .history) (ruleAt p i))
 
--- a rule that must never be broken: an order, one whose triggers can all be refused, or a conditional whose c cannot be
--- forced (11.10)
+-- a protected rule, which must never be broken: an order, a rule whose triggers are all rejectable, or a conditional
+-- whose c is not forcible (11.10)
 unfoldable pub unbreakable : Plan → Rule → Bool
 unbreakable p (Order a b) = true
 unbreakable p (Need a b) = rejectable p a
 unbreakable p (Conditional a b c) = (rejectable p a && rejectable p b) || not (forcible p c)
 
--- what has to hold of what was observed, and of the state after the list (11.11)
+-- what must be true of what was observed and of the state after the list (11.11)
 pub record Holds (p : Plan) (o : Observed) (end : State) : Type 0 where
-  -- no event twice in the history
+  -- no event has more than one line in the history
   pub once : (e : ℕ) → length (fatesIn (o .history) e) ≤ 1
-  -- no order rule broken, nor any rule whose triggers are all rejectable, nor a conditional whose c is not forcible
+  -- no protected rule is broken: no order, no rule whose triggers are all rejectable, no conditional whose c is not
+  -- forcible
   pub kept : (i : ℕ) → i < ruleCount p → unbreakable p (ruleAt p i) ≡ true → broken p o i ≡ false
   -- a rule that is not recorded holds of the history
   pub holding : (i : ℕ) → i < ruleCount p → among i (o .recorded) ≡ false → holds (o .history) (ruleAt p i) ≡ true
-  -- no held event with a viable order
+  -- no held event has a viable order
   pub waiting : (e : ℕ) (q : List ℕ) → observedFate o e ≡ Held → Viable (stateOf p o) e q → ⊥
-  -- nothing unsettled after an accepted winding up
+  -- after an accepted finish every event is settled
   pub settled : wasFinished o ≡ true → (e : ℕ) → e < eventCount p → isSettled (observedFate o e) ≡ true
-  -- the state after the list shows the same, to the last field
+  -- the state after the list has what was observed, in every field
   pub shown : end ≡ stateOf p o
-  -- number 12 does not apply to it
+  -- that state is coherent: number 12 does not apply to it
   pub coherent-end : coherent end ≡ true
 
 -- h begins with g (11.11)
@@ -179,12 +187,12 @@ abbrev pub Grows : List Entry → Story → Type 0
 Grows h [] = Unit {0}
 Grows h (x ∷ xs) = Extends h (x .1) × Grows (x .1) xs
 
--- the one claim, of a list of calls and the last state (11.11, 11.12)
+-- the guarantee for one list: one claim about the whole story and the state after it (11.11, 11.12)
 pub record Demand3 (p : Plan) (story : Story) (end : State) : Type 0 where
   pub claim : Holds p (observeAll p nothingYet story) end
   pub grows : Grows [] story
 
--- every admitted sheet, every list (11.11)
+-- the guarantee for every admitted sheet and every list (11.11)
 abbrev pub Keeps : Scheduler → Type 0
 Keeps step = (bytes : List ℕ) (s : State) (cs : List Call)
     → readSheet bytes ≡ admitted s

@@ -1,4 +1,4 @@
--- Demand 2's grounds, of any scheduler: the writes of a call, one after another, each with its ground (section 12)
+-- Demand 2's grounds, for any scheduler: a call is a chain of writes, and each of them has its ground (section 12)
 use Rattle.scheduler.specs.Prelude.{ℕ, _≤_, true, false, List, _≡_, Open, Held, Refused, Lapsed, State, Call, Submit, Close, Finish, Advance}
 use Rattle.plan.specs.Plans.{stepOf, rejectable, delayable}
 use Rattle.scheduler.specs.State.{fateOf, hold, settleAs, shut, setMinute, Sized}
@@ -10,8 +10,9 @@ use Rattle.scheduler.specs.Lists.{Scheduler}
 abbrev pub NoViable : State → ℕ → Type 0
 NoViable s e = (o : List ℕ) → Viable s e o → ⊥
 
--- why call c may refuse e in s: it is held and barred; or c handed it in, it is held, can be refused and can't wait,
--- and has no viable order; or c winds up, settling has come to its end, and e is the lowest held event (12.1)
+-- why call c may refuse e in s. First ground: e is held and barred. Second: c submits (hands in) e, e is held,
+-- rejectable and not delayable, and no order is viable for it. Third: c is a finish (wind up), no turn of settling is
+-- possible, and e is the lowest held event (12.1)
 pub data Ground (c : Call) (s : State) (e : ℕ) : Type 0 where
   by-bar : fateOf s e ≡ Held → barred s e ≡ true → Ground c s e
   by-submission : c ≡ Submit e
@@ -22,7 +23,7 @@ pub data Ground (c : Call) (s : State) (e : ℕ) : Type 0 where
       → Ground c s e
   by-finish : c ≡ Finish → Lowest s (IsHeld s) e → AtRest s → Ground c s e
 
--- what call c does, write by write (12.1, 12.2)
+-- the writes of call c, one after another, each with its ground (12.1, 12.2)
 pub data Trail (c : Call) : State → State → Type 0 where
   end : {s : State} → Trail c s s
   held : {s t : State} (e : ℕ) → c ≡ Submit e → fateOf s e ≡ Open → Trail c (hold s e) t → Trail c s t
@@ -48,6 +49,6 @@ pub data Trail (c : Call) : State → State → Type 0 where
       → Trail c s t
   moves : {s t : State} (m : ℕ) → c ≡ Advance m → s .minute ≤ m → Trail c (setMinute s m) t → Trail c s t
 
--- every call of a scheduler is such a trail (12.3)
+-- every call of the scheduler is such a chain of writes (12.3)
 abbrev pub Grounded : Scheduler → Type 0
 Grounded step = (s : State) (c : Call) → Sized s → Trail c s (step s c)

@@ -1,5 +1,5 @@
--- What has to be believed of a state and its calls: the definitions, in the specification's order; `Internal` is for
--- private functions.
+-- The definitions of a state and its calls that a reader has to believe, in the specification's order. `Internal` is
+-- for private functions.
 pub mod Prelude
 pub mod State
 pub mod Rules

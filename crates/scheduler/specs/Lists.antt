@@ -4,7 +4,7 @@ use Rattle.plan.specs.Base.{oneIf}
 use Rattle.plan.specs.Faults.{isTurnedDown}
 use Rattle.scheduler.specs.Answers.{call}
 
--- whatever makes a state out of a state and a call (9.1)
+-- a scheduler is any function that makes a state out of a state and a call (9.1)
 abbrev pub Scheduler : Type 0
 Scheduler = State → Call → State
 
@@ -12,7 +12,7 @@ Scheduler = State → Call → State
 abbrev pub scheduler : Scheduler
 scheduler s c = call s c .state
 
--- the state after a list: each call gets what the one before it left, also where that was turned down (11.2)
+-- the state after a list: each call is made on what the one before it left, also if that one was turned down (11.2)
 unfoldable pub after : Scheduler → State → List Call → State
 after step s [] = s
 after step s (c ∷ cs) = after step (step s c) cs

@@ -9,7 +9,7 @@ use Rattle.scheduler.specs.declared.order.Found.{Found}
 use Rattle.scheduler.specs.State.{fateOf, inTime, settleAs}
 use Rattle.scheduler.specs.Rules.{forbidden, owing}
 
--- the event is at hand, no rule that stands is against it now, and its window allows it now (7.3)
+-- the event is ready, no standing rule forbids it now, and its window allows it now (7.3)
 unfoldable pub mayDo : State → ℕ → Bool
 mayDo s c = ready (s .plan) (fateOf s) c && not (forbidden s c) && inTime s c
 
@@ -17,47 +17,48 @@ mayDo s c = ready (s .plan) (fateOf s) c && not (forbidden s c) && inTime s c
 abbrev pub fateAtTurn : State → ℕ → Fate
 fateAtTurn s c = doneAs (isOpen (fateOf s c))
 
--- one event of an order done (7.1)
+-- one event of an order is done (7.1)
 abbrev pub doOne : State → ℕ → State
 doOne s c = settleAs (fateAtTurn s c) s c
 
--- the events of an order done, one after the other (7.1)
+-- an order is run: its events are done, one after another (7.1)
 unfoldable pub doAll : State → List ℕ → State
 doAll s [] = s
 doAll s (c ∷ o) = doAll (doOne s c) o
 
--- each event may be done in the state that those before it leave, and at the end nothing is owed (7.3)
+-- each event is declared and may be done in the state that those before it leave, and at the end no rule owes (7.3)
 abbrev pub Runs : State → List ℕ → Type 0
 Runs s [] = owing s ≡ false
 Runs s (c ∷ o) = (c < eventCount (s .plan)) × (mayDo s c ≡ true) × Runs (doOne s c) o
 
--- no number stands twice (7.3)
+-- no number occurs twice (7.3)
 abbrev pub Different : List ℕ → Type 0
 Different [] = Unit {0}
 Different (c ∷ o) = (List·Memᴰ c o → ⊥) × Different o
 
--- an order for e: e is in it, at most six events, none twice, and it runs (7.3)
+-- the order is viable for e: it contains e, has at most six events, none of them twice, and runs (7.3)
 pub record Viable (s : State) (e : ℕ) (o : List ℕ) : Type 0 where
   pub contains : List·Memᴰ e o
   pub short : length o ≤ 6
   pub different : Different o
   pub runs : Runs s o
 
--- the chosen order: no viable one is shorter, and of those as long as it none comes before it (7.5)
+-- the order is the chosen one for e: no viable order is shorter, and none of the same length comes before it (7.5)
 pub record First (s : State) (e : ℕ) (o : List ℕ) : Type 0 where
   pub viable : Viable s e o
   pub least : (q : List ℕ) → Viable s e q → (length o < length q) ⊎ ((length o ≡ length q) × Ahead o q)
 
--- The search, proved to find exactly that: an order is its first event and then an order, one shorter, from the state
--- after that event. This is the first order of k of the events that pass the test `candidate`, compared from the
--- front, that contains e (or had it already) and after which no rule owes (7.4)
+-- The search, proved to find exactly the chosen order. An order is its first event, and then an order that is one event
+-- shorter, in the state after that event. The search gives the first order of k events, compared from the front, that
+-- meets three conditions: its events pass the test `candidate`; it contains e, unless `had` says that e came earlier;
+-- and no rule owes after it (7.4)
 unfoldable pub orderOf : (ℕ → Bool) → ℕ → State → ℕ → Bool → Option (List ℕ)
 orderOf candidate zero s e had = when (had && not (owing s)) (some [])
 orderOf candidate (suc k) s e had = firstOf (eventCount (s .plan)) 0 (λ c.
     let later = Option·map (λ o. c ∷ o) (orderOf candidate k (doOne s c) e (had || eqb c e)) in
     when (candidate c && mayDo s c) later)
 
--- the chosen order for e: of lengths 1 to 6 the first that has one (7.5)
+-- the chosen order for e: lengths 1 to 6 are tried, and the first that has an order gives it (7.5)
 unfoldable pub chosen : State → ℕ → Option (List ℕ)
 chosen s e = firstOf 6 1 (λ k. orderOf (λ c. true) k s e false)
 
@@ -66,11 +67,12 @@ unfoldable pub opens : State → List ℕ → List Bool
 opens s [] = []
 opens s (c ∷ o) = isOpen (fateOf s c) ∷ opens (doOne s c) o
 
--- an order as code hands it over: its events from the front, zeros after them, which of them were open, and its length;
--- and no order (7.5, 7.12)
+-- what code gives if there is no order (7.5)
 abbrev pub noOrder : Found
 noOrder = record { ok = false; events = replicate 6 0; opened = replicate 6 false; len = 0 }
 
+-- an order as code gives it: its events from the front and zeros after them, which of them were open when their turn
+-- came, and its length (7.5, 7.12)
 unfoldable pub foundOrder : State → Option (List ℕ) → Found
 foundOrder s none = noOrder
 foundOrder s (some o) = record {
@@ -80,13 +82,13 @@ foundOrder s (some o) = record {
   len = length o;
 }
 
--- some order of k events contains e (or had it already), and no rule owes after it (7.3)
+-- some order of k events can be run, contains e, unless `had` says that e came earlier, and leaves no rule owing (7.3)
 unfoldable pub someOrder : ℕ → State → ℕ → Bool → Bool
 someOrder zero s e had = had && not (owing s)
 someOrder (suc k) s e had = anyBelow (eventCount (s .plan)) (λ c.
     let later = someOrder k (doOne s c) e (had || eqb c e) in
     mayDo s c && later)
 
--- a viable order for e exists, as a test that tries them all (7.3)
+-- e has a viable order: the test tries all orders (7.3)
 unfoldable pub hasViable : State → ℕ → Bool
 hasViable s e = anyBelow 6 (λ k. someOrder (suc k) s e false)

@@ -1,4 +1,4 @@
--- The run of a list on a sheet, and the report.
+-- The run of a file of calls on a sheet, and the report.
 use Rattle.scheduler.specs.Prelude.{ℕ, zero, suc, _+_, _/_, _%_, true, false, List, [], _∷_, _++_, ltb, Fate, Open, Held, Done, Refused, Lapsed, Forced, Entry, State, Admitted, Faulty, Reading, Outcome}
 use Rattle.plan.specs.Base.{oneIf, countBelow}
 use Rattle.plan.specs.Fates.{isHeld}
@@ -9,7 +9,7 @@ use Rattle.scheduler.specs.State.{fateOf, brokenAt, lines}
 use Rattle.scheduler.specs.Sheet.{readSheet}
 use Rattle.scheduler.specs.Lists.{scheduler, after, turnedDown}
 
--- a file's calls, made on a state; a bad record at their end counts as one call turned down (13.3)
+-- the calls of a file are made on s; a bad record at their end counts as one call turned down (13.3)
 abbrev pub ranOn : State → Decoded → Outcome
 ranOn s d = record {
   verdict = Admitted;
@@ -17,28 +17,31 @@ ranOn s d = record {
   refused = turnedDown s (d .calls) + oneIf (d .cut);
 }
 
--- on an admitted sheet's first state. A sheet turned down: the empty state, and no call is made (13.3, 13.5)
+-- for an admitted sheet, the calls are made on its first state. For a sheet that is turned down, the state is the empty
+-- one and no call is made (13.3, 13.5)
 unfoldable pub runOn : Reading → Decoded → Outcome
 runOn r d = elim (r .verdict) [
   | Admitted ↦ ranOn (r .state) d
   | Faulty f at ↦ record { verdict = Faulty f at; state = r .state; refused = 0 }
 ]
 
+-- the run of the runner's two files, a sheet and calls (13.3)
 unfoldable pub runOf : List ℕ → List ℕ → Outcome
 runOf sheet calls = runOn (readSheet sheet) (decode calls)
 
--- the same with calls of every kind, moves of the minute among them (13.2)
+-- the same with calls of every kind, advances included (13.2)
 unfoldable pub replayOf : List ℕ → List ℕ → Outcome
 replayOf sheet calls = runOn (readSheet sheet) (decodeAll calls)
 
--- the two counts that a report gives of a state (13.4)
+-- how many events are held (13.4)
 abbrev pub heldCount : State → ℕ
 heldCount s = countBelow (eventCount (s .plan)) (λ e. isHeld (fateOf s e))
 
+-- how many rules are recorded as broken (13.4)
 abbrev pub brokenCount : State → ℕ
 brokenCount s = countBelow (ruleCount (s .plan)) (λ i. brokenAt s i)
 
--- a number in decimal digits: at most n of them; `decimal` has enough (13.6)
+-- a number in decimal digits, at most n of them; `decimal` allows enough (13.6)
 unfoldable pub digits : ℕ → ℕ → List ℕ
 digits zero x = []
 digits (suc n) x = elim (ltb x 10) [
@@ -73,21 +76,22 @@ callsWord = 99 ∷ 97 ∷ 108 ∷ 108 ∷ 115 ∷ []  -- calls
 abbrev pub atWord : List ℕ
 atWord = 97 ∷ 116 ∷ []  -- at
 
--- two words with a space between, and a line
+-- two words with a space between them
 infixr 60 _␣_
 abbrev pub _␣_ : List ℕ → List ℕ → List ℕ
 a ␣ b = a ++ (32 ∷ b)
 
+-- a line of text: it ends with a line feed
 abbrev pub line : List ℕ → List ℕ
 line a = a ++ (10 ∷ [])
 
--- a line for each line of the history: the event and its fate (13.4)
+-- one line of text for each line of the history: the event and its fate (13.4)
 unfoldable pub historyLines : List Entry → List ℕ
 historyLines [] = []
 historyLines (l ∷ ls) = line (decimal (l .event) ␣ fateWord (l .fate)) ++ historyLines ls
 
--- what the runner prints: of an admitted sheet the counts of its plan, the history, and three counts; of a sheet
--- turned down the number and the offset (13.4, 13.5)
+-- what the runner prints. For an admitted sheet: the counts of its plan, the history, and three more counts. For a
+-- sheet that is turned down: the number and the offset (13.4, 13.5)
 unfoldable pub report : Outcome → List ℕ
 report r = elim (r .verdict) [
   | Admitted ↦

@@ -1,4 +1,4 @@
--- The state: how it is read, and the five ways in which it is written.
+-- A state: how it is read, and the five ways to write it.
 use Rattle.scheduler.specs.Prelude.{ℕ, _+_, Bool, true, false, cond, List, _≡_, ltb, length, take, replicate, Fate, Held, Plan, Entry, State}
 use Rattle.scheduler.specs.declared.state.Course.{Course}
 use Rattle.plan.specs.Base.{readAt, storeAt}
@@ -6,8 +6,8 @@ use Rattle.plan.specs.Fates.{Fates, fatesOf, blankStanding}
 use Rattle.plan.specs.Plans.{emptyPlan, allowedAt, overAt}
 use Rattle.plan.specs.Histories.{blankEntry}
 
--- nothing has happened: every event is open, no step is closed, nothing is recorded, the history is empty and the
--- minute is 0 (5.5)
+-- the first state of a plan: every event is open, no step is closed, no rule is recorded as broken, the history is
+-- empty and the minute is 0 (5.5)
 abbrev pub firstState : Plan → State
 firstState p = record {
   plan = p;
@@ -23,7 +23,7 @@ firstState p = record {
 abbrev pub emptyState : State
 emptyState = firstState emptyPlan
 
--- reading a state (5.4)
+-- the event's fate (5.4)
 abbrev pub fateOf : State → Fates
 fateOf s e = fatesOf (s .standings) e
 
@@ -31,16 +31,19 @@ fateOf s e = fatesOf (s .standings) e
 abbrev pub brokenAt : State → ℕ → Bool
 brokenAt s i = readAt 16 (s .broken) i false
 
+-- the step is closed (5.4)
 abbrev pub closedAt : State → ℕ → Bool
 closedAt s k = readAt 8 (s .closed) k false
 
--- the event may be done, or forced, now; its window is over (2.11)
+-- the event may be done or forced now: it has no window, or the minute lies in it (2.11)
 abbrev pub inTime : State → ℕ → Bool
 inTime s e = allowedAt (s .plan) (s .minute) e
 
+-- the event's window is over (2.11)
 abbrev pub tooLate : State → ℕ → Bool
 tooLate s e = overAt (s .plan) (s .minute) e
 
+-- how many lines the history has (5.3)
 abbrev pub lineCount : State → ℕ
 lineCount s = s .«history_len»
 
@@ -48,7 +51,7 @@ lineCount s = s .«history_len»
 abbrev pub lines : State → List Entry
 lines s = take (lineCount s) (s .history)
 
--- the five ways in which a call writes the state: an open event becomes held (5.7)
+-- the first of the five ways to write a state: an event becomes held (5.7)
 unfoldable pub hold : State → ℕ → State
 hold s e = record {
   plan = s .plan;
@@ -60,8 +63,9 @@ hold s e = record {
   minute = s .minute;
 }
 
--- an event is settled: its fate is written and its line added to the history (5.7). The line count stops at 16. That
--- stop is never met: `len-then` in theory/HistoryInvariant, settling an unsettled event adds exactly one line
+-- an event is settled: its fate is written and its line is added to the history (5.7). The line count stops at 16. That
+-- stop is never reached: `len-then` in theory/HistoryInvariant says that settling an unsettled event adds exactly one
+-- line
 unfoldable pub settleAs : Fate → State → ℕ → State
 settleAs x s e = record {
   plan = s .plan;
@@ -109,7 +113,7 @@ setMinute s m = record {
   minute = m;
 }
 
--- what calls change of a state: all but its plan (5.7)
+-- the part of a state that calls change: all but its plan (5.7)
 abbrev pub courseOf : State → Course
 courseOf s = record {
   standings = s .standings;
@@ -120,7 +124,7 @@ courseOf s = record {
   minute = s .minute;
 }
 
--- the same plan, with what calls have changed (5.7)
+-- the same plan, with another such part (5.7)
 abbrev pub withCourse : State → Course → State
 withCourse s c = record {
   plan = s .plan;
@@ -132,7 +136,7 @@ withCourse s c = record {
   minute = c .minute;
 }
 
--- the arrays have their lengths, as in every state that code can hold (5.4)
+-- every array has its length, as in every state that code can hold (5.4)
 pub record Sized (s : State) : Type 0 where
   pub standings-len : length (s .standings) ≡ 16
   pub broken-len : length (s .broken) ≡ 16

@@ -1,5 +1,5 @@
-// The calls: hand in, close a step, wind up, advance the minute. Each takes the state and gives the answer and the
-// state after it; one that is turned down gives back the state as it came in.
+// The calls: submit (hand in), close a step, finish (wind up), advance (move the minute). Each takes the state and
+// gives the answer and the state after it. A call that is turned down gives the state back as it came in.
 use super::reply::Reply;
 use super::settle::Turned;
 use super::state::Course;
@@ -31,7 +31,7 @@ ghost use Rattle.scheduler.specs.Answers.{unclosedAt, turnsDown, idle, a
 ghost use Rattle.scheduler.specs.Internal.Turned.{turnOf};
 
 impl State {
-    // Hand in an event; answered with the fate it has then.
+    // Submits an event. The answer is the fate that the event then has.
     pub fn submit(self, event: u8) -> Reply
         ensures { λ r. ⌜ r ≡ call self (Submit event) ⌝ }
     {
@@ -41,7 +41,7 @@ impl State {
         self.take_submit(event)
     }
 
-    // Close a step.
+    // Closes a step.
     pub fn close_step(self, step: u8) -> Reply
         ensures { λ r. ⌜ r ≡ call self (Close step) ⌝ }
     {
@@ -51,7 +51,7 @@ impl State {
         self.take_close(step)
     }
 
-    // Wind up.
+    // Finishes: settles, and then refuses what is still held.
     pub fn finish(self) -> Reply
         ensures { λ r. ⌜ r ≡ call self Finish ⌝ }
     {
@@ -68,7 +68,7 @@ impl State {
         }
     }
 
-    // Advance to a minute: the current one or a later one.
+    // Advances to a minute: the current one or a later one.
     pub fn advance(self, minute: u32) -> Reply
         ensures { λ r. ⌜ r ≡ call self (Advance minute) ⌝ }
     {
@@ -85,7 +85,7 @@ impl State {
         }
     }
 
-    // Any call.
+    // Makes any call.
     pub fn call(self, made: Call) -> Reply
         ensures { λ r. ⌜ r ≡ call self made ⌝ }
     {
@@ -97,7 +97,7 @@ impl State {
         }
     }
 
-    // Hand in an event where the state hangs together: what is left of it once number 12 is tested.
+    // Submits an event without the coherence test, number 12; the caller has made it.
     pub fn take_submit(self, event: u8) -> Reply
         ensures { λ r. ⌜ r ≡ takeCall self (Submit event) ⌝ }
     {
@@ -119,7 +119,7 @@ impl State {
         }
     }
 
-    // Close a step where the state hangs together.
+    // Closes a step without the coherence test; the caller has made it.
     pub fn take_close(self, step: u8) -> Reply
         ensures { λ r. ⌜ r ≡ takeCall self (Close step) ⌝ }
     {
@@ -141,8 +141,8 @@ impl State {
         }
     }
 
-    // Is the call turned down, where the state hangs together? With `after_call` all that a list needs: a sheet's first
-    // state hangs together, and so does every state after it, so number 12 is not tested call by call.
+    // Is the call turned down, if the state is coherent? A list needs only this and `after_call`: a sheet's first state
+    // is coherent, and every call preserves coherence, so number 12 is not tested call by call.
     pub fn turns_down(self, made: Call) -> bool
         ensures { λ r. ⌜ r ≡ turnsDown self made ⌝ }
     {
@@ -165,7 +165,7 @@ impl State {
         }
     }
 
-    // Would the call, where it is taken, leave the state as it is? Then a list need not make it.
+    // Would the call, if it is accepted, leave the state as it is? Then a list need not make it.
     pub fn is_idle(self, made: Call) -> bool
         ensures { λ r. ⌜ r ≡ idle self made ⌝ }
     {
@@ -185,7 +185,7 @@ impl State {
         }
     }
 
-    // What a call that is taken leaves of the state, all but the plan, which no call changes.
+    // What an accepted call leaves of the state: all but the plan, which no call changes.
     pub fn after_call(self, made: Call) -> Course
         ensures { λ r. ⌜ withCourse self r ≡ accept self made .state ⌝ }
     {
@@ -197,7 +197,7 @@ impl State {
         }
     }
 
-    // Records the rule as broken where told to.
+    // Records the rule as broken if `is` is true.
     fn break_if(self, is: bool, rule: u8) -> State
         ensures { λ r. ⌜ r ≡ breakIf is self rule ⌝ }
     {
@@ -207,7 +207,7 @@ impl State {
         self
     }
 
-    // Does the event by itself; a rule that stood against it, or asks for more after it, is recorded.
+    // Does the event by itself. Each standing rule that forbids it, or that owes right after it, is recorded as broken.
     fn do_alone(self, event: u8) -> State
         ensures { λ r. ⌜ r ≡ doAlone self event ⌝ }
     {
@@ -233,7 +233,7 @@ impl State {
         next
     }
 
-    // The state after a hand-in that is taken. An event that is not delayable is decided at once.
+    // The state after an accepted submit. An event that is not delayable is decided at once.
     fn after_submit(self, event: u8) -> Course
         ensures { λ r. ⌜ r ≡ courseOf (submit self event) ⌝ }
     {
@@ -256,8 +256,8 @@ impl State {
         self.settle_decided(event)
     }
 
-    // An event that is not delayable is held and decided: its chosen order is done, else it is refused if it is
-    // rejectable, else done alone. Then the rest is settled; where nothing is held there is nothing to settle.
+    // Holds and decides an event that is not delayable: its chosen order is run; else the event is refused if it is
+    // rejectable; else it is done alone. Then the state is settled; if no event is held, there is nothing to settle.
     fn settle_decided(self, event: u8) -> Course
         ensures { λ r. ⌜ r ≡ courseOf (settle (decide (hold self event) event)) ⌝ }
     {
@@ -269,7 +269,8 @@ impl State {
         decided.course()
     }
 
-    // A held event that is not delayable: its chosen order, else refused if it is rejectable, else done alone.
+    // Decides a held event that is not delayable: its chosen order is run; else the event is refused if it is
+    // rejectable; else it is done alone.
     fn decide(self, event: u8) -> State
         ensures { λ r. ⌜ r ≡ decide self event ⌝ }
     {
@@ -308,7 +309,8 @@ impl State {
         next.do_alone(event)
     }
 
-    // The step is closed and its open events lapse, lowest first. Past the places stand blanks: open, and of step 0.
+    // Closes the step: its open events lapse, the lowest first. An event past the 16 places counts as open and of step
+    // 0.
     fn lapse_step(self, step: u8) -> State
         ensures { λ r. ⌜ r ≡ lapse (eventCount (self .plan)) 0 (shut self step) step ⌝ }
     {
@@ -347,7 +349,7 @@ impl State {
         next
     }
 
-    // The state after a closing that is taken.
+    // The state after an accepted closing.
     fn after_close(self, step: u8) -> Course
         ensures { λ r. ⌜ r ≡ courseOf (closeStep self step) ⌝ }
     {
@@ -355,7 +357,7 @@ impl State {
         lapsed.settle_with(16)
     }
 
-    // Refuses the lowest held event, and settles.
+    // Refuses the lowest held event and settles.
     fn refuse_lowest(self) -> Turned
         ensures { λ r. ⌜ r ≡ turnOf self (Option·map (λ e. settle (settleAs Refused self e)) (lowest (eventCount (self .plan)) (λ e. isHeld (fateOf self e)))) ⌝ }
     {
@@ -374,8 +376,8 @@ impl State {
         }
     }
 
-    // While any event is held, the lowest is refused and the rest settled. Each turn settles an event, and there are
-    // at most 16.
+    // Refuses the lowest held event and settles, as long as any event is held. Each turn settles an event, and there
+    // are at most 16.
     fn refuse_held(self) -> State
         ensures { λ r. ⌜ r ≡ refuseHeld 16 self ⌝ }
     {
@@ -392,7 +394,7 @@ impl State {
         next
     }
 
-    // The state after a move of the minute that is taken.
+    // The state after an accepted advance.
     fn after_advance(self, minute: u32) -> Course
         ensures { λ r. ⌜ r ≡ courseOf (advanceTo self minute) ⌝ }
     {
@@ -400,7 +402,7 @@ impl State {
         moved.settle_with(16)
     }
 
-    // The state after a winding up that is taken.
+    // The state after an accepted finish.
     fn after_finish(self) -> Course
         ensures { λ r. ⌜ r ≡ courseOf (finish self) ⌝ }
     {
@@ -409,7 +411,7 @@ impl State {
         refused.course()
     }
 
-    // Has a step an event and is not closed? Past the places stand blanks, of step 0.
+    // Is there a step that has an event and is not closed? An event past the 16 places counts as of step 0.
     fn has_unclosed(self) -> bool
         ensures { λ r. ⌜ r ≡ anyBelow 8 (unclosedAt self) ⌝ }
     {
@@ -455,7 +457,7 @@ impl State {
         false
     }
 
-    // A call turned down gives back the state as it came in.
+    // A call that is turned down gives the state back as it came in.
     fn turn_down(self, fault: CallFault) -> Reply
         ensures { λ r. ⌜ r ≡ turnedDownBy fault self ⌝ }
     {

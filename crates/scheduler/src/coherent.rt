@@ -1,11 +1,11 @@
-// Number 12: whether a state hangs together. The tests stand in `coherence`, which gets the state's parts.
+// When a state is coherent: the test of number 12. The crate `coherence` makes it on the state's parts.
 use super::state::State;
 use coherence::passes::does_cohere;
 ghost use mathlib.Core.Path.{_≡_};
 ghost use Rattle.scheduler.specs.Coherent.{coherent};
 
 impl State {
-    // Does the state hang together? Where it does not, number 12 applies.
+    // Is the state coherent? If it is not, number 12 applies.
     pub fn is_coherent(self) -> bool
         ensures { λ r. ⌜ r ≡ coherent self ⌝ }
     {

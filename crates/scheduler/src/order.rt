@@ -1,5 +1,5 @@
-// The chosen order for an event. The events that have to be done with it are found first; an order takes always the lowest
-// of them that may come next, so nothing is tried twice (7.10, 7.11).
+// The chosen order for an event. The events that have to be done with it are found first. The order then always takes
+// the lowest of them that may come next, so nothing is tried twice (7.10, 7.11).
 use super::state::State;
 use checks::fate::done_as;
 use checks::fate::is_open;
@@ -24,8 +24,8 @@ ghost use Rattle.scheduler.specs.Orders.{chosen, foundOrder};
 ghost use Rattle.scheduler.specs.Internal.Timing.{Timing};
 ghost use Rattle.scheduler.specs.Internal.Placed.{blankOrder, foundFrom};
 
-// What a search for an order finds: the order's events from the front, zeros after them, which of them were open when
-// their turn came, and the order's length.
+// What a search for an order gives: the order's events from the front and zeros after them, which of them were open
+// when their turn came, and the order's length.
 pub struct Found {
     pub ok: bool,
     pub events: [u8; 6],
@@ -51,8 +51,8 @@ impl State {
         blank_order(false, 0)
     }
 
-    // The order of the members, which is the chosen one (7.11). Looking at orders of held events before the others finds the
-    // same (7.9, `held-first`), so nothing is looked at twice.
+    // The order of the members, which is the chosen one (7.11). A search that looked at orders of held events first
+    // would find the same (7.9, `held-first`), so nothing is looked at twice.
     pub(crate) fn find_among(self, view: View, members: u16) -> Found
         requires { ⌜ Shows (self .plan) (fateOf self) view ⌝ }
         ensures { λ r. ⌜ r ≡ foundFrom self 0 (stepwise (self .plan) (stands self) 6 (fateOf self) (inSet members)) ⌝ }
@@ -60,7 +60,7 @@ impl State {
         search(self, view, members, 0, 6)
     }
 
-    // The events that are in time, and those whose window is over: the same through a whole call.
+    // The events that are in time, and those whose window is over. Both stay the same through a whole call.
     pub(crate) fn times(self) -> Times
         ensures { λ r. ⌜ Timing self r ⌝ }
     {
@@ -80,9 +80,9 @@ impl State {
     }
 }
 
-// The events that are left, always the lowest that no other of them has to come before; none if there is no such event,
-// or no place. It goes on an order of `at` events: its own stand at `at` and after, and the length counts both. The view is
-// the state's. After the last event the search need not call itself.
+// Puts the events that are left in order: always the lowest that no other of them has to come before. There is no order
+// if there is no such event, or no place for it. The search goes on from an order of `at` events: its own stand at `at`
+// and after, and the length counts both. The view is the state's. After the last event the search does not call itself.
 fn search(s: State, view: View, left: u16, at: u8, places: u8) -> Found
     requires { ⌜ ((at + places ≤ 6) × Shows (s .plan) (fateOf s) view) ⌝ }
     ensures { λ r. ⌜ r ≡ foundFrom s at (stepwise (s .plan) (stands s) places (fateOf s) (inSet left)) ⌝ }

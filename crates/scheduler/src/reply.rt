@@ -3,7 +3,7 @@ use super::state::State;
 use plan::answer::Answer;
 use plan::answer::Verdict;
 
-// A sheet turned down gives the empty state.
+// A sheet that is turned down gives the empty state.
 pub struct Reading {
     pub verdict: Verdict,
     pub state: State,
@@ -15,8 +15,8 @@ pub struct Reply {
     pub state: State,
 }
 
-// What running a list of calls on a sheet comes to: the sheet's verdict, the state after the list, and how many calls
-// were turned down.
+// What running a list of calls on a sheet gives: the sheet's verdict, the state after the list, and how many calls were
+// turned down.
 pub struct Outcome {
     pub verdict: Verdict,
     pub state: State,

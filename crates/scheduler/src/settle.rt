@@ -31,14 +31,14 @@ ghost use Rattle.scheduler.specs.Internal.Timing.{Timing};
 // The set of all sixteen events.
 const EVERY_EVENT: u16 = 65535;
 
-// Whether there was a turn to make, and the state after it.
+// Whether a turn was possible, and the state after it.
 pub(crate) struct Turned {
     pub moved: bool,
     pub state: State,
 }
 
 impl State {
-    // Settling.
+    // Settles the state.
     pub(crate) fn settle(self) -> State
         ensures { λ r. ⌜ r ≡ settle self ⌝ }
     {
@@ -46,8 +46,8 @@ impl State {
         self.with_course(settled)
     }
 
-    // An event becomes held (16: none does), and the rest is settled: turns until none is left. Each settles an event,
-    // and there are at most 16; where nothing is held there is none.
+    // Makes an event held (16: none), and settles: takes turns until none is possible. Each turn settles an event, and
+    // there are at most 16; if no event is held, there is no turn.
     pub(crate) fn settle_with(self, event: u8) -> Course
         ensures { λ r. ⌜ r ≡ courseOf (settle (hold self event)) ⌝ }
     {
@@ -110,8 +110,8 @@ impl State {
         next.course()
     }
 
-    // The events at hand that are worth a search. Where several events are held and some event is missing, neither settled
-    // nor at hand, one pass over the rules tells of those that are not.
+    // The events at hand that are worth a search. If several events are held, and some event is neither settled nor at
+    // hand, one pass over the rules drops events that are not worth one.
     fn find_hopeful(
         self,
         rules: [RuleLine; 16],
@@ -133,7 +133,7 @@ impl State {
     }
 
     // The chosen order of the lowest held event that has one. An event that has none is in no order for another, so it
-    // counts no more as able in this turn.
+    // does not count as able for the rest of this turn.
     fn find_held(self, rules: [RuleLine; 16], broken: [bool; 16], view: View, times: Times) -> Found
         requires { ⌜ ((self .plan .rules ≡ rules) × (self .broken ≡ broken) × Shows (self .plan) (fateOf self) view × Timing self times) ⌝ }
         ensures { λ r. ⌜ r ≡ foundOrder self (toDo self) ⌝ }
@@ -160,8 +160,8 @@ impl State {
     }
 }
 
-// The lowest held event that is barred; 16 if there is none. Where nothing is done, refused or lapsed, no rule bars;
-// and none is barred by its window where none is over.
+// The lowest held event that is barred; 16 if there is none. No rule bars anything if nothing is done, refused or
+// lapsed, and no window does if none is over.
 fn find_barred(rules: [RuleLine; 16], broken: [bool; 16], count: u8, view: View, times: Times) -> u8
     ensures { λ r. ⌜ ((s : State) → s .plan .rules ≡ rules → s .broken ≡ broken → ruleCount (s .plan) ≡ count → Shows (s .plan) (fateOf s) view → Timing s times → r ≡ orSixteen (toRefuse s)) ⌝ }
 {

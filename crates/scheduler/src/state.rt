@@ -20,7 +20,7 @@ pub struct State {
     pub minute: u32,
 }
 
-// What calls change of a state: all but the plan. Calls give this, so that no plan is copied for each.
+// The part of a state that calls change: all but the plan. Calls give this, so that no plan is copied for each.
 pub struct Course {
     pub standings: [Standing; 16],
     pub broken: [bool; 16],
@@ -73,7 +73,7 @@ impl State {
         next
     }
 
-    // What calls change of it.
+    // The part of the state that calls change.
     pub(crate) fn course(self) -> Course
         ensures { λ r. ⌜ r ≡ courseOf self ⌝ }
     {
@@ -91,7 +91,7 @@ impl State {
         }
     }
 
-    // The same plan, with what calls have changed.
+    // The same plan, with another such part.
     pub fn with_course(self, course: Course) -> State
         ensures { λ r. ⌜ r ≡ withCourse self course ⌝ }
     {
@@ -133,8 +133,8 @@ impl State {
     }
 }
 
-// The events of an order done one after the other, at most six: each is settled in place, forced if the search found it
-// open and else done.
+// Does the events of an order one after another, at most six. Each is settled in place: as forced if the search found
+// it open, else as done.
 pub(crate) fn do_events(
     standings: [Standing; 16],
     history: [Entry; 16],

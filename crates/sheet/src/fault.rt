@@ -1,4 +1,4 @@
-// The table's rows for a record: its first fault, if it has one.
+// The tests of a record: its first fault, if it has one.
 use super::kind::EVENT;
 use super::kind::FOUR_EVENTS;
 use super::kind::WINDOW;
@@ -19,13 +19,13 @@ ghost use Rattle.plan.specs.Records.{recordFault};
 ghost use Rattle.plan.specs.Rules.{badWindow};
 ghost use Rattle.sheet.specs.Internal.Progress.{isFull, ruleFault, bodyFault, checkOf};
 
-// What a record's check says: fine, or its first fault.
+// What the tests of a record give: it is fine, or its first fault.
 pub(crate) enum Check {
     Fine,
     Bad(SheetFault),
 }
 
-// The table's rows for the record at an offset of a sheet of some length.
+// Tests the record at an offset of a sheet of some length.
 pub(crate) fn check_record(plan: Plan, len: usize, at: usize, rec: Record) -> Check
     ensures { λ r. ⌜ r ≡ checkOf (recordFault plan len at rec) ⌝ }
 {

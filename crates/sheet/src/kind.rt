@@ -18,7 +18,7 @@ pub(crate) const FOUR_EVENTS: u8 = 6;
 pub(crate) const WINDOW: u8 = 7;
 
 // By kind: the length of the body, and how many events and rules it declares. An array in place of the arms would be
-// written out anew at every call.
+// built again at every call.
 pub(crate) fn body_length(kind: u8) -> u8
     ensures { λ r. ⌜ r ≡ bodyLength kind ⌝ }
 {

@@ -21,14 +21,14 @@ ghost use mathlib.Core.Path.{_≡_};
 ghost use Rattle.scheduler.specs.Sheet.{readSheet};
 ghost use Rattle.sheet.specs.Internal.Progress.{verdictOf, judge, stop, readingOf};
 
-// What a record's reading says: whether it ends the reading, and what the sheet then comes to.
+// What reading a record gives: whether it ends the reading, and the verdict on the sheet if it does.
 pub(crate) struct Judged {
     pub stops: bool,
     pub verdict: Verdict,
 }
 
-// A sheet is admitted, or turned down with its first fault and the fault's offset. What a record declares is stored
-// into the plan in its place: a copy of the plan for each record would take most of the time.
+// Admits a sheet, or turns it down with its first fault and the fault's offset. What a record declares is stored into
+// the plan in place: a copy of the plan for each record would take most of the time.
 pub fn read_sheet(sheet: &[u8]) -> Reading
     ensures { λ r. ⌜ r ≡ readSheet (now (sheet .entry)) ⌝ }
 {
@@ -78,7 +78,7 @@ fn judge(plan: Plan, len: usize, at: usize, rec: Record) -> Judged
     }
 }
 
-// The reading ends, with what the sheet comes to.
+// The reading ends with this verdict on the sheet.
 fn stop(verdict: Verdict) -> Judged
     ensures { λ r. ⌜ r ≡ stop verdict ⌝ }
 {
@@ -88,7 +88,7 @@ fn stop(verdict: Verdict) -> Judged
     }
 }
 
-// What a check at an offset says of the sheet.
+// The verdict on the sheet that a check at an offset gives.
 fn verdict_of(check: Check, at: usize) -> Verdict
     ensures { λ r. ⌜ r ≡ verdictOf check at ⌝ }
 {

@@ -1,6 +1,6 @@
-// The static library: what include/sinewhopa.h declares. Here the run of a whole list; in state.rt single calls on a
-// state that the host keeps, in batches.rt several together, in previews.rt what one would settle, in sheets.rt the state
-// written out, in version.rt the version.
+// The static library: the functions that include/sinewhopa.h declares. The run of a whole list is here. On a state that
+// the host keeps, single calls are in state.rt, batches in batches.rt, previews in previews.rt, and the state written
+// out as a sheet in sheets.rt. The version is in version.rt.
 pub mod batches;
 pub mod previews;
 pub mod sheets;
@@ -13,8 +13,8 @@ ghost use lib.ListN.{length};
 ghost use Rattle.scheduler.specs.Runner.{runOf, report};
 ghost use Rattle.pages.specs.Filled.{filled};
 
-// Runs the calls on the sheet, writes the report at the start of `out` and answers its length. Where that is more
-// than there is room for, nothing is written.
+// Runs the calls on the sheet, writes the report at the start of `out` and answers its length. If `out` is shorter than
+// that, nothing is written.
 #[no_mangle]
 pub extern "C" fn sinewhopa_run(sheet: &[u8], calls: &[u8], out: &mut [u8]) -> usize
     ensures length { λ r. ⌜ r ≡ length (report (runOf (now (sheet .entry)) (now (calls .entry)))) ⌝ }

@@ -5,7 +5,7 @@ ghost use lib.ListN.{length};
 ghost use Rattle.writer.specs.Kept.{writeNumberOn, bufferOn, needOn};
 
 // Writes the sheet that declares the state's events, rules and windows to the start of `out`, and its length into
-// `need`, and answers 0; or answers 12, with 0 in `need`, or 14, with the length in it. With 12 and 14 `out` is left
+// `need`, and answers 0. Otherwise it answers 12, with 0 in `need`, or 14, with the length in `need`, and leaves `out`
 // as it was.
 #[no_mangle]
 pub extern "C" fn sinewhopa_write_sheet(state: &[u8; 384], out: &mut [u8], need: &mut usize) -> u8

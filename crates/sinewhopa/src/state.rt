@@ -19,8 +19,8 @@ ghost use Rattle.image.specs.Layout.{imageOf};
 ghost use Rattle.image.specs.Calls.{numberOn, imageAfter, checkOn, verdictNumber, verdictOffset, reportOn};
 ghost use Rattle.pages.specs.Filled.{filled};
 
-// Reads a sheet and writes its first state, or the empty state where it is turned down; answers the sheet's number, and
-// in `at` the offset of its fault.
+// Reads a sheet and writes its first state, or the empty state if the sheet is turned down. Answers the sheet's number,
+// and writes the offset of its fault into `at`.
 #[no_mangle]
 pub extern "C" fn sinewhopa_open(state: &mut [u8; 384], sheet: &[u8], at: &mut usize) -> u8
     ensures number { λ r. ⌜ r ≡ verdictNumber (readSheet (now (sheet .entry)) .verdict) ⌝ }
@@ -35,7 +35,7 @@ pub extern "C" fn sinewhopa_open(state: &mut [u8; 384], sheet: &[u8], at: &mut u
     verdict_number(verdict)
 }
 
-// Hands in an event.
+// Submits (hands in) an event.
 #[no_mangle]
 pub extern "C" fn sinewhopa_submit(state: &mut [u8; 384], event: u8) -> u8
     ensures number { λ r. ⌜ r ≡ numberOn (now (state .entry)) (Submit event) ⌝ }
@@ -53,7 +53,7 @@ pub extern "C" fn sinewhopa_close_step(state: &mut [u8; 384], step: u8) -> u8
     make_call(state, Call::Close(step))
 }
 
-// Winds up.
+// Finishes (winds up).
 #[no_mangle]
 pub extern "C" fn sinewhopa_finish(state: &mut [u8; 384]) -> u8
     ensures number { λ r. ⌜ r ≡ numberOn (now (state .entry)) Finish ⌝ }
@@ -62,7 +62,7 @@ pub extern "C" fn sinewhopa_finish(state: &mut [u8; 384]) -> u8
     make_call(state, Call::Finish)
 }
 
-// Moves the minute forward, and settles; the same minute is allowed, one below it is answered with 16.
+// Advances to a minute, and settles. The current minute is allowed; one below it is answered with 16.
 #[no_mangle]
 pub extern "C" fn sinewhopa_advance(state: &mut [u8; 384], minute: u32) -> u8
     ensures number { λ r. ⌜ r ≡ numberOn (now (state .entry)) (Advance minute) ⌝ }
@@ -71,7 +71,7 @@ pub extern "C" fn sinewhopa_advance(state: &mut [u8; 384], minute: u32) -> u8
     make_call(state, Call::Advance(minute))
 }
 
-// 0 where the bytes are an image of a state that hangs together, else 12.
+// The check: 0 if the bytes are the image of a coherent state, else 12.
 #[no_mangle]
 pub extern "C" fn sinewhopa_check(state: &[u8; 384]) -> u8
     ensures { λ r. ⌜ r ≡ checkOn (now (state .entry)) ⌝ }
@@ -79,8 +79,8 @@ pub extern "C" fn sinewhopa_check(state: &[u8; 384]) -> u8
     check(state)
 }
 
-// Writes what the runner would print of the state after `refused` calls turned down, and answers its length. Where that
-// is more than there is room for, or `sinewhopa_check` says 12 (its length is 0 then), nothing is written.
+// Writes what the runner would print of the state after `refused` calls turned down, and answers its length. If `out`
+// is shorter than that, or if `sinewhopa_check` says 12, nothing is written; with 12 the length is 0.
 #[no_mangle]
 pub extern "C" fn sinewhopa_report(state: &[u8; 384], refused: usize, out: &mut [u8]) -> usize
     ensures length { λ r. ⌜ r ≡ length (reportOn (now (state .entry)) refused) ⌝ }

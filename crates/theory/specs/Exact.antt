@@ -1,5 +1,5 @@
--- Demand 2 whole, of any scheduler: what a call that is taken may give, sentence by sentence. Only one scheduler has it
--- (`exact-only`). And which events may be refused at all.
+-- Demand 2 whole, for any scheduler: exactly what an accepted call gives, call by call. Only one scheduler has this
+-- property (`exact-only`). Also: which events may be refused at all.
 use Prim.Native.Nat.{ℕ, _<_}
 use mathlib.Core.Bool.{true, false}
 use mathlib.Core.List.{List}
@@ -20,7 +20,7 @@ use Rattle.scheduler.specs.Answers.{callFault}
 use Rattle.scheduler.specs.Grounds.{NoViable}
 use Rattle.scheduler.specs.Lists.{Scheduler}
 
--- the event is open and of step k (9.7)
+-- the event is open and belongs to step k (9.7)
 abbrev pub OpenIn : State → ℕ → ℕ → Type 0
 OpenIn s k e = (fateOf s e ≡ Open) × (stepOf (s .plan) e ≡ k)
 
@@ -29,14 +29,14 @@ pub data Lapses (k : ℕ) : State → State → Type 0 where
   none-open : {s : State} → ((e : ℕ) → e < eventCount (s .plan) → OpenIn s k e → ⊥) → Lapses k s s
   lapse-next : {s t : State} (e : ℕ) → Lowest s (OpenIn s k) e → Lapses k (settleAs Lapsed s e) t → Lapses k s t
 
--- an event that cannot wait, held in s: its chosen order is done; without a viable order it is refused if it is
--- rejectable, and else done alone (9.4)
+-- decides e, which is held in s and cannot wait: its chosen order is run; without a viable order, e is refused if it is
+-- rejectable, and done alone if it is not (9.4)
 pub data Decides (s : State) (e : ℕ) : State → Type 0 where
   by-order : (o : List ℕ) → First s e o → Decides s e (doAll s o)
   by-refusal : NoViable s e → rejectable (s .plan) e ≡ true → Decides s e (settleAs Refused s e)
   by-itself : NoViable s e → rejectable (s .plan) e ≡ false → Decides s e (doAlone s e)
 
--- what a call that is taken may make of s (9.2 to 9.4, 9.7 to 9.9)
+-- what an accepted call may make of s (9.2 to 9.4, 9.7 to 9.9)
 pub data Makes (s : State) : Call → State → Type 0 where
   answers : (e : ℕ) → (fateOf s e ≡ Open → ⊥) → Makes s (Submit e) s
   waits : {t : State} (e : ℕ)
@@ -54,17 +54,17 @@ pub data Makes (s : State) : Call → State → Type 0 where
   finishes : {t : State} → Finishes s t → Makes s Finish t
   advances : {t : State} (m : ℕ) → Settles (setMinute s m) t → Makes s (Advance m) t
 
--- of any scheduler, every state that code can hold and every call: one that is turned down changes nothing, one that is
--- taken makes what its sentence says (12.8)
+-- a call that is turned down changes nothing, and an accepted call makes what its clause says (12.8)
 pub record Exactly (step : Scheduler) (s : State) (c : Call) : Type 0 where
   pub unchanged : (f : CallFault) → callFault s c ≡ some f → step s c ≡ s
   pub made : callFault s c ≡ none → Makes s c (step s c)
 
+-- this is so for every state that code can hold and every call (12.8)
 abbrev pub Exact : Scheduler → Type 0
 Exact step = (s : State) (c : Call) → Sized s → Exactly step s c
 
--- of any scheduler, every state that passes number 12 and every call: an event that is refused after it was so before,
--- or is rejectable (12.9)
+-- for every coherent state and every call: an event that is refused after the call was refused before it, or is
+-- rejectable (12.9)
 abbrev pub RefusesRejectable : Scheduler → Type 0
 RefusesRejectable step = (s : State) (c : Call) (e : ℕ)
     → Sized s

@@ -16,22 +16,23 @@ use Rattle.scheduler.specs.State.{fateOf, inTime}
 use Rattle.scheduler.specs.Rules.{stands}
 use Rattle.scheduler.specs.Orders.{Viable, orderOf}
 
--- a viable order for e, and none is shorter (7.9)
+-- the order is viable for e, and no viable order is shorter (7.9)
 pub record Shortest (s : State) (e : ℕ) (o : List ℕ) : Type 0 where
   pub viable : Viable s e o
   pub least : (q : List ℕ) → Viable s e q → length o ≤ length q
 
--- length by length: of the orders that pass the test the first, else of all orders the first (7.9)
+-- for each length, the shortest first: the first order whose events pass the test, or else the first of all orders
+-- (7.9)
 unfoldable pub firstAmong : (ℕ → Bool) → State → ℕ → Option (List ℕ)
 firstAmong candidate s e = firstOf 6 1 (λ k.
     let all = orderOf (λ c. true) k s e false in
     orElse (orderOf candidate k s e false) all)
 
--- the orders of events that are held in s, before those in which an open event is forced (7.9)
+-- the search looks at orders of events that are held in s before orders that force an open event (7.9)
 unfoldable pub heldFirst : State → ℕ → Option (List ℕ)
 heldFirst s e = firstAmong (λ c. isHeld (fateOf s c)) s e
 
--- the least closed set with e: the events that have to be done with it (7.10)
+-- the least closed set of e: the events that have to be done with it (7.10)
 abbrev pub members : State → ℕ → Events
 members s e = leastSet (s .plan) (stands s) (fateOf s) e
 

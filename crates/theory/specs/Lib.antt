@@ -1,4 +1,4 @@
--- What the theorems say that no function promises.
+-- What theorems prove and no function's contract says.
 pub mod HeldFirst
 pub mod Marks
 pub mod Waiting

@@ -1,4 +1,4 @@
--- A state written out as a sheet: what it declares, the bytes, and what writing them into a lent buffer comes to.
+-- A state written out as a sheet: what it declares, its bytes, and what a writing into a lent buffer gives.
 use Prim.Native.Nat.{ℕ, suc, _-_, _≤_}
 use mathlib.Core.Bool.{not, cond}
 use mathlib.Core.List.{List, [], _∷_, _++_, map}
@@ -16,20 +16,23 @@ use Rattle.scheduler.specs.Sheet.{admitted, readSheet}
 use Rattle.pages.specs.Filled.{filled}
 use Rattle.writer.specs.Types.{Open, Event, Rule, Order, Need, Conditional, RuleLine, Window, Plan, CallFault, Incoherent, NoRoom, Answer, Made, TurnedDown, State, SheetReply}
 
--- what a plan declares: its events and its rules, in their order, and each event's window (2.10)
+-- the events that a plan declares, in their order (2.10)
 abbrev pub eventsOf : Plan → List Event
 eventsOf p = tabulate (eventCount p) 0 (λ e. eventAt p e)
 
+-- the rules that a plan declares, in their order (2.10)
 abbrev pub rulesOf : Plan → List Rule
 rulesOf p = tabulate (ruleCount p) 0 (λ i. ruleAt p i)
 
+-- the window of each event (2.10)
 abbrev pub windowsOf : Plan → List Window
 windowsOf p = tabulate (eventCount p) 0 (λ e. windowAt p e)
 
--- an event is written as kind 1, a rule as its own kind (3.5)
+-- an event is written as a record of kind 1 (3.5)
 abbrev pub eventRecord : Event → List ℕ
 eventRecord v = 1 ∷ v .step ∷ v .attributes ∷ []
 
+-- a rule is written as a record of its own kind (3.5)
 abbrev pub ruleRecord : Rule → List ℕ
 ruleRecord r = elim r [
   | Order a b ↦ 2 ∷ a ∷ b ∷ []
@@ -42,14 +45,15 @@ unfoldable pub joined : {A : Type 0} → (A → List ℕ) → List A → List �
 joined f [] = []
 joined f (x ∷ xs) = f x ++ joined f xs
 
--- a window is written as kind 7, with its event; an event without one has no record (3.5)
+-- a window is written as a record of kind 7, with its event (3.5)
 abbrev pub timedRecord : ℕ → Window → List ℕ
 timedRecord e w = (7 ∷ e ∷ []) ++ bytesOf (w .from) ++ bytesOf (w .until)
 
+-- an event without a window has no such record (3.5)
 unfoldable pub windowRecord : ℕ → Window → List ℕ
 windowRecord e w = cond (isWindow w) (timedRecord e w) []
 
--- those of the events from e on, by event
+-- the windows of the events from e on, in the order of the events (3.5)
 unfoldable pub windowBytes : ℕ → List Window → List ℕ
 windowBytes e [] = []
 windowBytes e (w ∷ ws) = windowRecord e w ++ windowBytes (suc e) ws
@@ -61,29 +65,30 @@ sheetBytes p = joined eventRecord (eventsOf p) ++ joined ruleRecord (rulesOf p) 
 abbrev pub sheetLength : Plan → ℕ
 sheetLength p = length (sheetBytes p)
 
--- the length that is given, with number 12 none (9.17)
+-- the length that is given: that of the sheet, or 0 if the state is not coherent (9.17)
 abbrev pub lengthGiven : State → ℕ
 lengthGiven s = cond (coherent s) (sheetLength (s .plan)) 0
 
 abbrev pub answerTo : Option CallFault → Answer
 answerTo f = elim f [ some x ↦ TurnedDown x | none ↦ Made ]
 
--- the length alone is turned down by number 12 (9.17, 10.9)
+-- the answer if only the length is asked for; number 12 alone turns this down (9.17, 10.9)
 unfoldable pub lengthReply : State → SheetReply
 lengthReply s = record {
   answer = answerTo (firstFault ((not (coherent s), Incoherent) ∷ []));
   length = lengthGiven s;
 }
 
--- a writing by number 12 and then by a lent buffer shorter than the sheet (10.9)
+-- why a writing is turned down: number 12, then number 14 if the lent buffer is shorter than the sheet (10.9)
 unfoldable pub writeFault : State → ℕ → Option CallFault
 writeFault s room = firstFault ((not (coherent s), Incoherent) ∷ (ltb room (sheetLength (s .plan)), NoRoom) ∷ [])
 
--- what it answers (9.17)
+-- the answer of a writing (9.17)
 unfoldable pub writeReply : State → ℕ → SheetReply
 writeReply s room = record { answer = answerTo (writeFault s room); length = lengthGiven s }
 
--- the lent buffer after it: turned down, as it was; else the sheet, and the buffer's own bytes beyond it (9.18)
+-- the lent buffer after a writing: unchanged if it is turned down; else the sheet, and then the buffer's own bytes
+-- (9.18)
 unfoldable pub bufferAfter : State → List ℕ → List ℕ
 bufferAfter s out = elim (writeFault s (length out)) [ some f ↦ out | none ↦ filled (sheetBytes (s .plan)) out ]
 
@@ -93,7 +98,7 @@ pub record SameDeclared (p q : Plan) : Type 0 where
   pub rules : rulesOf p ≡ rulesOf q
   pub windows : windowsOf p ≡ windowsOf q
 
--- the plan that declares the same and has blanks in the places past its counts (2.10)
+-- the plan that declares the same and has blanks in the places beyond its counts (2.10)
 abbrev pub plain : Plan → Plan
 plain p = record {
   events = eventsOf p ++ replicate (16 - eventCount p) blankEvent;
@@ -103,8 +108,8 @@ plain p = record {
   windows = windowsOf p ++ replicate (16 - eventCount p) blankWindow;
 }
 
--- what holds of the sheet that a state is written as: it is admitted, with every event open and the same events, rules
--- and windows; it is written again as the same bytes; and it has at most 273 of them (11.16)
+-- what is true of the sheet that a state is written as. It is admitted, with every event open and the same events,
+-- rules and windows. It is written again as the same bytes. It has at most 273 bytes (11.16)
 pub record ReadBack (s : State) : Type 0 where
   pub reads : readSheet (sheetBytes (s .plan)) ≡ admitted (firstState (plain (s .plan)))
   pub same : SameDeclared (plain (s .plan)) (s .plan)

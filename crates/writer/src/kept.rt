@@ -7,8 +7,8 @@ ghost use mathlib.Core.Path.{_≡_};
 ghost use lib.ListN.{length};
 ghost use Rattle.writer.specs.Kept.{writeNumberOn, bufferOn, needOn};
 
-// Writes the state's sheet to the start of the buffer and its length into `need`, and answers 0; or answers 12, with 0 in
-// `need`, or 14, with the length in it, and the buffer keeps its bytes.
+// Writes the state's sheet to the start of the buffer and its length into `need`, and answers 0. Otherwise it answers
+// 12, with 0 in `need`, or 14, with the length in `need`, and the buffer keeps its bytes.
 pub fn write_sheet_on(image: &[u8; 384], out: &mut [u8], need: &mut usize) -> u8
     ensures number { λ r. ⌜ r ≡ writeNumberOn (now (image .entry)) (length (now (out .entry))) ⌝ }
     ensures bytes { λ _. ⌜ now (out .exit) ≡ bufferOn (now (image .entry)) (now (out .entry)) ⌝ }

@@ -1,5 +1,5 @@
-// A state written out as a sheet, into a buffer that the caller lends; on a state and on a kept one. The definitions stand
-// in specs/.
+// A state written out as a sheet, into a buffer that the caller lends; for a state and for a kept one. The definitions
+// are in specs/.
 pub mod kept;
 mod records;
 pub mod write;

@@ -10,8 +10,8 @@ ghost use lib.ListN.{length};
 ghost use Rattle.writer.specs.Writing.{lengthReply, writeReply, bufferAfter};
 ghost use Rattle.writer.specs.Internal.Records.{refusal};
 
-// What writing a sheet gives: whether it is taken, and the sheet's length, also where the buffer is too short; 0 where number
-// 12 applies.
+// What writing a sheet gives: whether it is accepted, and the sheet's length, also if the buffer is too short; 0 if the
+// state is not coherent, number 12.
 pub struct SheetReply {
     pub answer: Answer,
     pub length: usize,
@@ -33,8 +33,8 @@ pub fn sheet_length(state: State) -> SheetReply
     }
 }
 
-// Writes the state's sheet to the start of the buffer. Where number 12 applies, and where the buffer is shorter than the
-// sheet, it keeps its bytes.
+// Writes the state's sheet to the start of the buffer. If the state is not coherent, or the buffer is shorter than the
+// sheet, the buffer keeps its bytes.
 pub fn write_sheet(state: State, out: &mut [u8]) -> SheetReply
     ensures reply { λ r. ⌜ r ≡ writeReply state (length (now (out .entry))) ⌝ }
     ensures bytes { λ _. ⌜ now (out .exit) ≡ bufferAfter state (now (out .entry)) ⌝ }
