@@ -1,7 +1,7 @@
 #!/usr/bin/env bash
-# What every public function promises, as one text. Nothing in this repository calls the exported functions, so a promise of
-# theirs that is weakened would pass every proof: this text would differ from tests/promises.txt, and the gate fails.
-# Usage: bash tests/promises.sh          compares;  bash tests/promises.sh --write    writes tests/promises.txt anew
+# Compares what every public function promises with tests/promises.txt. Nothing in this repository calls the exported
+# functions, so a promise of theirs that is weakened would pass every proof; here it shows, and the gate fails.
+# Usage: bash tests/promises.sh, or bash tests/promises.sh --write to write tests/promises.txt anew.
 set -euo pipefail
 cd "$(dirname "$0")/.."
 
@@ -20,7 +20,7 @@ if [ "${1:-}" = --write ]; then
     exit
 fi
 if ! promises | diff tests/promises.txt - >&2; then
-    echo "promises: the promises differ from tests/promises.txt (above); if they are meant to, run bash tests/promises.sh --write" >&2
+    echo "promises: not those of tests/promises.txt (above); where that is meant: bash tests/promises.sh --write" >&2
     exit 1
 fi
 echo "promises: $(grep -c ' fn ' tests/promises.txt) functions promise what tests/promises.txt says"
