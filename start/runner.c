@@ -1,4 +1,4 @@
-/* The runner as a C program, since a program of the kit has no exit status: 0, or 1 where a file or the report failed. */
+/* The runner as a C program, as programs of the kit have no exit status: 0, or 1 where a file or the report failed. */
 int sinewhopa_files(void);
 
 int main(void)

@@ -1,6 +1,6 @@
 /*
- * A morning's replies, handed in together: one batch on a sheet with four steps. An entry that is turned down does not stop
- * the later ones; a list of more than 64 entries is turned down whole.
+ * A morning's replies, handed in together: one batch on a sheet with four steps. An entry that is turned down does
+ * not stop the later ones; a list of more than 64 entries is turned down whole.
  */
 #include <stdbool.h>
 #include <stdio.h>
@@ -66,7 +66,8 @@ static bool try_too_many(sinewhopa_state *state)
     }
     memcpy(entries_before, entries, sizeof entries);
     uint8_t number = sinewhopa_submit_all(state, entries, TOO_MANY);
-    bool as_it_was = memcmp(state, &state_before, sizeof *state) == 0 && memcmp(entries, entries_before, sizeof entries) == 0;
+    bool as_it_was = memcmp(state, &state_before, sizeof *state) == 0 &&
+                     memcmp(entries, entries_before, sizeof entries) == 0;
     printf("%d entries: turned down, %u, %s\n", TOO_MANY, (unsigned)number, as_it_was ? "nothing written" : "WRITTEN");
     return number == SINEWHOPA_TOO_LONG && as_it_was;
 }

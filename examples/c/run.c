@@ -1,4 +1,4 @@
-/* Case A of the examples, run through the static library: event 0 is handed in and held, then event 1, and both are done in order. */
+/* Case A, run through the static library: event 0 is handed in and held, then event 1, and both are done in order. */
 #include <stdio.h>
 
 #include "sinewhopa.h"

@@ -1,7 +1,7 @@
 /*
- * A director who sees what no office has reported. Before an event is handed in, a preview says how many others it would
- * force; after it, the history says which. These are listed, to be chased up, also from a state that was saved and read
- * back. A report that comes in late finds its event forced. The program fails where anything is not so.
+ * A director who sees what no office has reported. Before an event is handed in, a preview says how many others it
+ * would force; after it, the history says which. These are listed, to be chased up, also from a state that was saved
+ * and read back. A report that comes in late finds its event forced. The program fails where anything is not so.
  */
 #include <stdbool.h>
 #include <stdio.h>
@@ -55,7 +55,8 @@ static bool ask_and_hand_in(sinewhopa_state *state, uint8_t event)
 {
     uint8_t added[SINEWHOPA_ADDED_COUNTS];
     uint8_t lines_before = state->lines;
-    if (sinewhopa_preview(state, event, added) != SINEWHOPA_TAKEN || sinewhopa_submit(state, event) != SINEWHOPA_TAKEN) {
+    if (sinewhopa_preview(state, event, added) != SINEWHOPA_TAKEN ||
+        sinewhopa_submit(state, event) != SINEWHOPA_TAKEN) {
         return false;
     }
     unsigned done = added[SINEWHOPA_ADDED_DONE];
@@ -89,7 +90,8 @@ static bool report_late(sinewhopa_state *state, uint8_t event)
 /* Two reports in one batch, on a copy of the state. True where the first is done and the second answers this fate. */
 static bool try_batch(sinewhopa_state state, uint8_t first, uint8_t second, uint8_t expected)
 {
-    sinewhopa_entry reports[] = {{.kind = SINEWHOPA_HAND_IN, .number = first}, {.kind = SINEWHOPA_HAND_IN, .number = second}};
+    sinewhopa_entry reports[] = {{.kind = SINEWHOPA_HAND_IN, .number = first},
+                                 {.kind = SINEWHOPA_HAND_IN, .number = second}};
     if (sinewhopa_submit_all(&state, reports, sizeof reports / sizeof reports[0]) != SINEWHOPA_TAKEN) {
         return false;
     }

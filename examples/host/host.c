@@ -1,6 +1,6 @@
 /*
- * A host that keeps three hundred plans at once. Replies come in one at a time, in another order for each plan; half way it
- * saves every state to a file, forgets them and reads them back. Usage: host FILE
+ * A host that keeps three hundred plans at once. Replies come in one at a time, in another order for each plan; half
+ * way it saves every state to a file, forgets them and reads them back. Usage: host FILE
  */
 #include <stdbool.h>
 #include <stdio.h>
@@ -51,7 +51,7 @@ static const uint8_t transfer[] = {
     5           /* the end */
 };
 
-/* A sheet, and what comes in for a plan that is made from it, in some order: replies, and what goes wrong. Kind 0: no call. */
+/* A sheet, and what comes in for a plan made from it, in some order: replies, and what goes wrong. Kind 0: no call. */
 typedef struct {
     const char *name;
     const uint8_t *sheet;
@@ -286,8 +286,8 @@ static bool try_damage(kept *plans, size_t offset)
     size_t length = sinewhopa_report(state, 0, out, sizeof out);
     bool as_it_was = memcmp(state, &damaged, sizeof damaged) == 0;
     ((uint8_t *)state)[offset] ^= 2;
-    printf("plan %zu, byte %zu changed: check %u, submit %u, report of %zu bytes, %s\n", found, offset, (unsigned)checked,
-           (unsigned)submitted, length, as_it_was ? "left as it was" : "WRITTEN");
+    printf("plan %zu, byte %zu changed: check %u, submit %u, report of %zu bytes, %s\n", found, offset,
+           (unsigned)checked, (unsigned)submitted, length, as_it_was ? "left as it was" : "WRITTEN");
     return found == DAMAGED && checked == SINEWHOPA_INCOHERENT && submitted == checked && length == 0 && as_it_was;
 }
 
@@ -301,7 +301,8 @@ static bool restart(const char *path, kept *plans)
         return false;
     }
     printf("saved and read back: %d plans, %zu bytes each\n", PLANS, sizeof plans[0]);
-    return try_damage(plans, offsetof(sinewhopa_state, version)) && try_damage(plans, offsetof(sinewhopa_state, fate)) &&
+    return try_damage(plans, offsetof(sinewhopa_state, version)) &&
+           try_damage(plans, offsetof(sinewhopa_state, fate)) &&
            try_damage(plans, sizeof(sinewhopa_state) - 1) && first_damaged(plans) == PLANS;
 }
 

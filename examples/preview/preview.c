@@ -45,8 +45,8 @@ static void show_preview(uint8_t event, uint8_t number, const uint8_t *added, bo
     unsigned forced = added[SINEWHOPA_ADDED_FORCED];
     printf("%s: would ", event_word(event));
     if (number == SINEWHOPA_TAKEN) {
-        printf("settle %u (%u done, %u refused, %u lapsed, %u forced)\n", done + refused + lapsed + forced, done, refused,
-               lapsed, forced);
+        printf("settle %u (%u done, %u refused, %u lapsed, %u forced)\n", done + refused + lapsed + forced, done,
+               refused, lapsed, forced);
     } else {
         printf("be turned down, %u, %s\n", (unsigned)number, as_it_was ? "nothing written" : "WRITTEN");
     }
@@ -59,7 +59,8 @@ static void show_settled(uint8_t event, uint8_t number, const sinewhopa_state *s
         printf("%s: turned down, %u\n", event_word(event), (unsigned)number);
         return;
     }
-    printf("%s: %s, settled %u", event_word(event), fate_word(state->fate[event]), (unsigned)(state->lines - lines_before));
+    printf("%s: %s, settled %u", event_word(event), fate_word(state->fate[event]),
+           (unsigned)(state->lines - lines_before));
     const char *between = " (";
     for (uint8_t line = lines_before; line < state->lines; line++) {
         printf("%s%s %s", between, event_word(state->line_event[line]), fate_word(state->line_fate[line]));

@@ -1,7 +1,7 @@
 /*
- * An office that passes a sheet on: it opens one, makes calls, asks how long its state is as a sheet, and writes it out.
- * A colleague opens what was written, has the same events and rules with every event open, and writes the same bytes.
- * The program fails where anything is not so.
+ * An office that passes a sheet on: it opens one, makes calls, asks how long its state is as a sheet, and writes it
+ * out. A colleague opens what was written, has the same events and rules with every event open, and writes the same
+ * bytes. The program fails where anything is not so.
  */
 #include <stdbool.h>
 #include <stdio.h>
@@ -52,7 +52,7 @@ static void show_bytes(const uint8_t *bytes, size_t count)
     printf("\n");
 }
 
-/* Lends so many bytes of the buffer and shows the answer. False where it is another, or more than a sheet is written. */
+/* Lends so many bytes of the buffer and shows the answer. False if it is another, or more than a sheet is written. */
 static bool lend(const char *whose, const sinewhopa_state *state, size_t room, uint8_t expected, lent_buffer *lent)
 {
     const sinewhopa_state before = *state;
@@ -80,7 +80,7 @@ static bool make_calls(sinewhopa_state *state)
     return sinewhopa_submit(state, 5) == SINEWHOPA_TAKEN &&   /* the crematorium: done */
            sinewhopa_submit(state, 4) == SINEWHOPA_TAKEN &&   /* the notice: held, as the chapel has not confirmed */
            sinewhopa_submit(state, 2) == SINEWHOPA_TAKEN &&   /* confirmed: done; the notice still waits for the cars */
-           sinewhopa_close_step(state, 0) == SINEWHOPA_TAKEN; /* nothing more of the booking: what is open of it lapses */
+           sinewhopa_close_step(state, 0) == SINEWHOPA_TAKEN; /* nothing more of the booking: its open events lapse */
 }
 
 /* Asks for the length, tries a buffer that is one byte too short, and writes the sheet. */

@@ -1,8 +1,9 @@
 /*
- * A director whose family approves embalming before the consent form has come in. The transport firm may report at any
- * time and cannot be turned away, so that embalming waits for the form: until it comes in, or until the firm is out of it.
- * The host asks before it hands in, reads from the state on what an event waits, saves a state that waits and goes on from
- * it, and meets states that an earlier version of the library has stored. The program fails where anything is not so.
+ * A director whose family approves embalming before the consent form has come in. The transport firm may report at
+ * any time and cannot be turned away, so that embalming waits for the form: until it comes in, or until the firm is
+ * out of it. The host asks before it hands in, reads from the state on what an event waits, saves a state that waits
+ * and goes on from it, and meets states that an earlier version of the library has stored. The program fails where
+ * anything is not so.
  */
 #include <stdbool.h>
 #include <stdio.h>
@@ -179,7 +180,8 @@ static bool hand_in(sinewhopa_state *state, uint8_t event)
     uint8_t added[SINEWHOPA_ADDED_COUNTS];
     uint8_t by_fate[SINEWHOPA_FORCED + 1] = {0};
     uint8_t lines_before = state->lines;
-    if (sinewhopa_preview(state, event, added) != SINEWHOPA_TAKEN || sinewhopa_submit(state, event) != SINEWHOPA_TAKEN) {
+    if (sinewhopa_preview(state, event, added) != SINEWHOPA_TAKEN ||
+        sinewhopa_submit(state, event) != SINEWHOPA_TAKEN) {
         return false;
     }
     for (uint8_t line = lines_before; line < state->lines; line++) {
@@ -219,7 +221,7 @@ static bool save_and_load(const sinewhopa_state *kept, sinewhopa_state *loaded)
     return fclose(file) == 0 && whole && sinewhopa_check(loaded) == SINEWHOPA_TAKEN;
 }
 
-/* The story, on a state that is saved while embalming waits. The calls after that are made on the kept one too, unshown. */
+/* The story, on a state that is saved while embalming waits. Later calls are made on the kept one too, unshown. */
 static bool tell_story(void)
 {
     const turn approval = {HAND_IN, EMBALMING, 0, AHEAD};
@@ -254,7 +256,8 @@ static bool play(const neighbour *played)
     }
     uint8_t lines = 0;
     while (lines < EVENTS && played->lines[lines].fate != SINEWHOPA_OPEN) {
-        if (state.line_event[lines] != played->lines[lines].event || state.line_fate[lines] != played->lines[lines].fate) {
+        if (state.line_event[lines] != played->lines[lines].event ||
+            state.line_fate[lines] != played->lines[lines].fate) {
             return false;
         }
         lines++;
@@ -271,7 +274,7 @@ static void write_settled(sinewhopa_state *state, uint8_t event, uint8_t fate)
     state->lines++;
 }
 
-/* Bytes of an earlier version, where embalming was done at once. True where every call turns them down and leaves them. */
+/* Bytes of an earlier version, where embalming was done at once. True if every call turns them down and leaves them. */
 static bool try_earlier(void)
 {
     sinewhopa_state state;
@@ -289,7 +292,8 @@ static bool try_earlier(void)
     printf("stored by an earlier version, embalming done, transport and consent open:\n");
     printf("check %u, submit %u, close step %u, preview %u, %s\n", checked, submitted, closed, previewed,
            as_it_was ? "left as it was" : "WRITTEN");
-    return checked == SINEWHOPA_INCOHERENT && submitted == checked && closed == checked && previewed == checked && as_it_was;
+    return checked == SINEWHOPA_INCOHERENT && submitted == checked && closed == checked && previewed == checked &&
+           as_it_was;
 }
 
 /* The way out: the plan's own sheet, and the calls that were made on it. */
@@ -301,7 +305,7 @@ static bool open_again(void)
     return open_plan(&state, 0, 6) && make(&state, approval);
 }
 
-/* Bytes of an earlier version in which consent has lapsed too. Nothing is owed any more: they are taken; the rule breaks. */
+/* Bytes of an earlier version in which consent has lapsed too. Nothing is owed: they are taken; the rule breaks. */
 static bool try_too_late(void)
 {
     const turn report = {HAND_IN, TRANSPORT, 1, NO_WAIT};
