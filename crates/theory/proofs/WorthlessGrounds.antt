@@ -7,7 +7,7 @@ use mathlib.Core.Bool.{Bool, true, false, not, _&&_}
 use mathlib.Core.List.{List, [], _∷_, _++_, List·Memᴰ, List·Memᴰ·cases-cons, List·Memᴰ·not-nil, List·Memᴰ·head, List·Memᴰ·tail}
 use mathlib.Core.Logic.{inl, inr}
 use mathlib.Core.Path.{_≡_, refl, sym, _∙_, ap, subst}
-use lib.Dec.{eqb}
+use lib.Dec.{eqb, ltb}
 use lib.ListN.{getD, length}
 use Rattle.theory.proofs.Types.{Need, Fate, Open, Held, Done, Refused, Lapsed, Forced, Order, Plan, Entry, State, Call, Submit, Close, Finish, Advance, Window}
 use Rattle.plan.specs.Plans.{emptyPlan, eventCount, ruleCount, ruleAt, stepOf, rejectable, delayable, hasWindow, blankWindow}
@@ -18,20 +18,22 @@ use Rattle.plan.specs.Records.{addEvent, addRule, addWindow}
 use Rattle.scheduler.specs.State.{firstState, fateOf, lines, hold, settleAs, shut, setMinute, Sized}
 use Rattle.scheduler.specs.Rules.{stands, ruledOut, barred, forbidden, owing}
 use Rattle.scheduler.specs.Orders.{mayDo, doOne, doAll, Viable, First}
-use Rattle.scheduler.specs.Calls.{advanceTo}
+use Rattle.scheduler.specs.Calls.{settle, advanceTo}
 use Rattle.scheduler.specs.Coherent.{coherentRule, coherent}
 use Rattle.scheduler.specs.Lists.{Scheduler, scheduler}
-use Rattle.scheduler.specs.Grounds.{NoViable, Ground, by-bar, by-submission, by-finish, Trail, Grounded}
+use Rattle.scheduler.specs.Grounds.{Ground, by-bar, by-submission, by-finish, Trail, held, refused, Grounded}
 use Rattle.scheduler.specs.Answers.{call}
 use Rattle.theory.specs.Exact.{Exact, RefusesRejectable}
 use Rattle.theory.specs.Windows.{Reason, bar, order, Reasoned, OnlySettles}
-use Rattle.plan.proofs.Tests.{clash, any-none, either}
-use Rattle.plan.proofs.Fates.{held-is}
+use borrow.Author.Tests.{ltb-true}
+use Rattle.plan.proofs.Tests.{and-left, and-right, clash, any-none}
+use Rattle.plan.proofs.Fates.{open-is}
 use Rattle.plan.proofs.Arrays.{read-blank}
 use Rattle.plan.proofs.Windows.{unwindowed-over, unwindowed-allowed}
-use Rattle.scheduler.proofs.Laws.{plan-one, fate-settle-other, sized-hold, sized-shut, sized-settle}
+use Rattle.scheduler.proofs.Laws.{plan-one, fate-settle-other, fate-hold-same, sized-hold, sized-shut, sized-settle}
 use Rattle.scheduler.proofs.Searching.{run-declared, mem-long}
 use Rattle.scheduler.proofs.Settling.{plan-turns}
+use Rattle.scheduler.proofs.Grounds.{settle-trail, grounded}
 use Rattle.scheduler.proofs.Doing.{rest-held, settled-fixed}
 use Rattle.theory.proofs.Minutes.{trail-plan}
 use Rattle.theory.proofs.Demands.{first-sized, all-open}
@@ -385,4 +387,44 @@ not-spendthrift g =
       | inr f ↦
           let same = trail-plan (f .reached) in
           nothing-opened (f .at) (ap ruleCount same) (ap (λ (p : Plan). p .windows) same) (f .for) (f .waits) 1 (f .earlier) (f .later) (f .order) (f .opened)
+    ]
+
+-- the grounds by themselves let an event be refused that is not rejectable: refuses whatever is barred when it is handed in
+unfoldable pub presser : Scheduler
+presser s (Submit e) = elim (isOpen (fateOf s e) && ltb e 16 && barred (hold s e) e) [
+  | true ↦ settle (settleAs Refused (hold s e) e)
+  | false ↦ scheduler s (Submit e)
+]
+presser s (Close k) = scheduler s (Close k)
+presser s Finish = scheduler s Finish
+presser s (Advance m) = scheduler s (Advance m)
+
+pub grounded-presser : Grounded presser
+unfolding presser
+grounded-presser s (Close k) z = grounded s (Close k) z
+grounded-presser s Finish z = grounded s Finish z
+grounded-presser s (Advance m) z = grounded s (Advance m) z
+grounded-presser s (Submit e) z = go (isOpen (fateOf s e) && ltb e 16 && barred (hold s e) e) refl
+  where
+    pressed : Bool → State
+    pressed b = elim b [ true ↦ settle (settleAs Refused (hold s e) e) | false ↦ scheduler s (Submit e) ]
+
+    go : (b : Bool) → (isOpen (fateOf s e) && ltb e 16 && barred (hold s e) e) ≡ b → Trail (Submit e) s (pressed b)
+    go false q = grounded s (Submit e) z
+    go true q =
+        let front = and-left (isOpen (fateOf s e) && ltb e 16) (barred (hold s e) e) q in
+        let low = ltb-true e 16 (and-right (isOpen (fateOf s e)) (ltb e 16) front) in
+        let y = sized-hold s e z in
+        held e refl (open-is (fateOf s e) (and-left (isOpen (fateOf s e)) (ltb e 16) front))
+        (refused e
+        (by-bar (fate-hold-same s e z low) (and-right (isOpen (fateOf s e) && ltb e 16) (barred (hold s e) e) q))
+        (settle-trail (Submit e) (settleAs Refused (hold s e) e) (sized-settle Refused (hold s e) e y)))
+
+pub not-presser : RefusesRejectable presser → ⊥
+unfolding shownBy scheduled soundRule named enforceable owes holds doneInTurn doneIn anyDone coherentRule presser
+not-presser r =
+    let z = sized-settle Lapsed needFirst 1 (first-sized (needFirst .plan)) in
+    elim (r (settleAs Lapsed needFirst 1) (Submit 0) 0 z refl refl) [
+      | inl f ↦ let w : _≡_ {A = ℕ} 0 1 = cc in omega arith
+      | inr f ↦ clash f refl
     ]
