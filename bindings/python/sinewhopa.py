@@ -2,7 +2,7 @@
 
 A plan has events, steps and rules. A host opens a `State` for each of its plans, hands in events as they are reported
 to it, closes steps and winds up. The answer is the event's `Fate`. The host carries an event out (publishes, books,
-pays) only when it is told `Fate.DONE`. `Fate.HELD` says "not yet": a later call does or refuses the event.
+pays) only when it is told `Fate.DONE` or `Fate.FORCED`. `Fate.HELD` says "not yet": a later call does or refuses it.
 
 >>> state = State.open(bytes([1, 0, 6, 1, 1, 6, 2, 0, 1, 5]))  # two events; event 0 before event 1
 >>> print(state.submit(1))

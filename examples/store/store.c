@@ -26,7 +26,7 @@ const char schema[] =
     "CREATE INDEX plan_wake ON plan (wake);\n"
     "CREATE TABLE call (              -- the calls that were taken, in their order\n"
     "    plan INTEGER NOT NULL, n INTEGER NOT NULL,\n"
-    "    record BLOB NOT NULL,        -- 10 event, 11 step, 12, or 13 minute (four bytes, lowest first)\n"
+    "    record BLOB NOT NULL,        -- 16 event, 17 step, 18, or 19 minute (four bytes, lowest first)\n"
     "    PRIMARY KEY (plan, n)\n"
     ");\n"
     "CREATE TABLE outbox (            -- the lines of the histories, to be acted on\n"
@@ -37,7 +37,7 @@ const char schema[] =
     ");\n"
     "CREATE INDEX outbox_unsent ON outbox (plan, line) WHERE sent = 0;\n"
     "CREATE TABLE reply (             -- the marks: a reply that is here was taken\n"
-    "    id INTEGER PRIMARY KEY,      -- the sender's\n"
+    "    id INTEGER PRIMARY KEY,      -- unique over all senders\n"
     "    plan INTEGER NOT NULL, kind INTEGER NOT NULL, number INTEGER NOT NULL,\n"
     "    answer INTEGER NOT NULL,     -- what the call returned: 0, or the number of the refusal\n"
     "    fate INTEGER,                -- of a submit that was taken: the event's fate then\n"
@@ -423,7 +423,10 @@ static taking take_reply(host *h, const reply *one)
     return way;
 }
 
-/* The timer: moves one plan whose window begins or ends by `minute`. False where there is none. */
+/*
+ * The timer: moves one plan whose window begins or ends by `minute`. False where there is none. The queue's clock jumps
+ * from reply to reply; a timer that looks every minute would have met the plan's own minute, so that one is taken.
+ */
 static bool wake_next(host *h, int64_t minute)
 {
     plan p;
