@@ -1,5 +1,5 @@
 -- For each ground of a refusal, and for lapsing and holding, a worthless scheduler that does it without the ground; and
--- two that the grounds let pass: only the whole of demand 2 turns them away.
+-- what the grounds leave open: only the whole of demand 2 turns these away.
 use Prim.Native.Nat.{ℕ, suc, _≤_, _<_}
 use native.Mathlib.Omega.{arith}
 use native.Mathlib.Decide.{ℕ-discrete}
@@ -307,8 +307,8 @@ not-misplacer g =
       | inr f ↦ let w : _≡_ {A = ℕ} 0 1 = cc in omega arith
     ]
 
--- Demand 2 whole. Refuses an event that is not rejectable: where what it needs has lapsed it is barred, and the grounds
--- let it pass. Does what a move allows in another order: each order is a chosen one, and the grounds let it pass too
+-- Demand 2 whole. Refuses an event that is not rejectable. Does what a move allows in another sequence than settling:
+-- the grounds ask for no sequence of orders
 pub not-refuser-rejectable : RefusesRejectable refuser → ⊥
 unfolding shownBy scheduled soundRule named enforceable owes holds doneInTurn doneIn anyDone coherentRule
 not-refuser-rejectable r =
