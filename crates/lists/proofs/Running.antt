@@ -1,19 +1,21 @@
 -- Taking record after record, the runner's or of every kind, comes to the run of the list that the bytes decode to.
 -- Every state on the way passes number 12, so only the rows after it turn a call down.
-use Prim.Native.Nat.{ℕ, _+_, _-_, _≤_, _<_}
+use Prim.Native.Nat.{ℕ, zero, suc, _+_, _-_, _≤_, _<_}
+use native.Mathlib.Decide.{ℕ-discrete}
 use native.Mathlib.Omega.{arith}
 use borrow.Author.Tests.{le-leb, lt-leb}
-use mathlib.Core.Bool.{Bool, true, false, not, _||_}
-use mathlib.Core.List.{List, []}
+use mathlib.Core.Bool.{Bool, true, false, cond, not, _||_}
+use mathlib.Core.List.{List, [], _∷_}
 use mathlib.Core.Path.{_≡_, refl, sym, _∙_, ap}
-use lib.ListN.{length, drop, length-drop}
-use lib.Seq.{drop-drop}
+use lib.ListN.{length, getD, drop, length-drop}
+use lib.Seq.{drop-cons, drop-drop}
 use Rattle.plan.specs.Base.{oneIf}
 use Rattle.plan.specs.Faults.{isTurnedDown}
-use Rattle.plan.specs.Calls.{callSize, firstCall, Decoded, andThen, decode}
+use Rattle.plan.specs.Calls.{callSize, callOf, firstCall, Decoded, andThen, decode}
 use Rattle.plan.specs.Fates.{isOpen}
 use Rattle.plan.specs.Plans.{eventCount, hasEvent}
 use Rattle.plan.proofs.Tests.{one-le, or-right-true}
+use Rattle.plan.proofs.CallRecords.{more-left}
 use Rattle.plan.proofs.CallDecoding.{size-some, Decodes, decodes}
 use Rattle.scheduler.specs.State.{fateOf, closedAt, Sized}
 use Rattle.scheduler.specs.Coherent.{coherent}
@@ -148,43 +150,128 @@ module _
   pub bad-room : read ≡ Bad → n < length b
   bad-room h = omega (arith, u .inside, u .few, k .bad-inside (drop at b) (sym is ∙ h), length-drop at b)
 
+-- a record of the runner's, by the bytes that are left: its kind and, but for a finish, its number
+module _ (b : List ℕ) (at k : ℕ) (kind : k ≡ getD b at 0) where
+  module _ (x : ℕ) (number : x ≡ getD b (at + 1) 0) (two : at + 1 < length b) where
+    record-at : firstCall (drop at b) ≡ callOf k x
+    record-at =
+        sym
+        (more-left b at (callOf k x) (omega (arith, two)) (λ one. omega (arith, two, one))
+        (ap (λ i. callOf i x) kind ∙ ap (callOf (getD b at 0)) number))
+
+    pub submit-at : k ≡ 16 → firstCall (drop at b) ≡ Listed (Submit x)
+    submit-at h = record-at ∙ rw h refl
+
+    pub close-at : k ≡ 17 → firstCall (drop at b) ≡ Listed (Close x)
+    close-at h = record-at ∙ rw h refl
+
+  pub finish-at : at < length b → k ≡ 18 → firstCall (drop at b) ≡ Listed Finish
+  unfolding firstCall
+  finish-at some h =
+      let here : drop at b ≡ 18 ∷ drop (suc at) b = drop-cons b at 0 some ∙ ap (λ i. i ∷ drop (suc at) b) (sym kind ∙ h) in
+      ap firstCall here ∙ last (drop (suc at) b)
+    where
+      last : (l : List ℕ) → firstCall (18 ∷ l) ≡ Listed Finish
+      last [] = refl
+      last (x ∷ l) = refl
+
 -- one of the runner's that leaves the state as it is, by what the code reads of it
-module _
-    {s t : State} {b : List ℕ} {at n : ℕ} (u : Underway decode s b t at n)
-    (read : CallRead) (is : read ≡ firstCall (drop at b)) (c : Call) (h : read ≡ Listed c) (m : ℕ) where
-  pub skip-unknown : (e : ℕ) → c ≡ Submit e → eventCount (t .plan) ≤ e → m ≡ n + 1 → Underway decode s b t (at + 2) m
-  skip-unknown e k ge f =
-      again-refused decodes u read is c h 2 (sym (ap callSize k)) t m (ap (turnsDown t) k ∙ sym (submit-turns t e) ∙ le-leb _ _ ge) refl f
+module _ {s t : State} {b : List ℕ} {at n : ℕ} (u : Underway decode s b t at n) (m : ℕ) where
+  -- what the bytes hold here is the call c
+  abbrev Here : Call → Type 0
+  Here c = firstCall (drop at b) ≡ Listed c
+
+  refused-here : (c : Call) → Here c → turnsDown t c ≡ true → m ≡ n + 1 → Underway decode s b t (at + callSize c) m
+  refused-here c h down f = again-refused decodes u (firstCall (drop at b)) refl c h (callSize c) refl t m down refl f
+
+  idle-here : (c : Call)
+      → Here c
+      → turnsDown t c ≡ false
+      → idle t c ≡ true
+      → m ≡ n
+      → Underway decode s b t (at + callSize c) m
+  idle-here c h taken still f = again-idle decodes u (firstCall (drop at b)) refl c h (callSize c) refl t m taken still refl f
+
+  pub skip-unknown : (e : ℕ) → Here (Submit e) → eventCount (t .plan) ≤ e → m ≡ n + 1 → Underway decode s b t (at + 2) m
+  skip-unknown e h ge f = refused-here (Submit e) h (sym (submit-turns t e) ∙ le-leb _ _ ge) f
 
   pub skip-submitted : (e : ℕ) (o : Bool)
-      → c ≡ Submit e
+      → Here (Submit e)
       → e < eventCount (t .plan)
       → o ≡ isOpen (fateOf t e)
       → o ≡ false
       → m ≡ n
       → Underway decode s b t (at + 2) m
-  skip-submitted e o k lt opened settled f =
-      again-idle decodes u read is c h 2 (sym (ap callSize k)) t m
-      (ap (turnsDown t) k ∙ sym (submit-turns t e) ∙ lt-leb _ _ lt)
-      (sym (submit-idle t c e o k opened) ∙ ap not settled)
-      refl f
+  skip-submitted e o h lt opened settled f =
+      idle-here (Submit e) h
+      (sym (submit-turns t e) ∙ lt-leb _ _ lt)
+      (sym (submit-idle t (Submit e) e o refl opened) ∙ ap not settled)
+      f
 
-  pub skip-closed : (j : ℕ) → c ≡ Close j → closedAt t j ≡ true → m ≡ n + 1 → Underway decode s b t (at + 2) m
-  skip-closed j k shut f =
-      again-refused decodes u read is c h 2 (sym (ap callSize k)) t m
-      (ap (turnsDown t) k
-      ∙ sym (close-turns t j)
+  pub skip-closed : (j : ℕ) → Here (Close j) → closedAt t j ≡ true → m ≡ n + 1 → Underway decode s b t (at + 2) m
+  skip-closed j h shut f =
+      refused-here (Close j) h
+      (sym (close-turns t j)
       ∙ ap (λ (x : Bool). not (hasEvent (t .plan) j) || x) shut
       ∙ or-right-true (not (hasEvent (t .plan) j)))
-      refl f
+      f
 
-  pub skip-unclosed : c ≡ Finish → turnsDown t Finish ≡ true → m ≡ n + 1 → Underway decode s b t (at + 1) m
-  skip-unclosed k down f = again-refused decodes u read is c h 1 (sym (ap callSize k)) t m (ap (turnsDown t) k ∙ down) refl f
+  pub skip-unclosed : Here Finish → turnsDown t Finish ≡ true → m ≡ n + 1 → Underway decode s b t (at + 1) m
+  skip-unclosed h down f = refused-here Finish h down f
 
-  pub skip-finished : c ≡ Finish
+  pub skip-finished : Here Finish
       → turnsDown t Finish ≡ false
       → idle t Finish ≡ true
       → m ≡ n
       → Underway decode s b t (at + 1) m
-  skip-finished k taken still f =
-      again-idle decodes u read is c h 1 (sym (ap callSize k)) t m (ap (turnsDown t) k ∙ taken) (ap (idle t) k ∙ still) refl f
+  skip-finished h taken still f = idle-here Finish h taken still f
+
+one-more : (d : Bool) (k n : ℕ) → n + cond d (suc k) 0 ≡ n + oneIf d + cond d k 0
+one-more true k n = omega arith
+one-more false k n = omega arith
+
+at-end : (at past : ℕ) → past ≡ at + 0 → past ≡ at
+at-end at past e = omega (arith, e)
+
+none-more : (d : Bool) (n : ℕ) → n + cond d 0 0 ≡ n
+none-more true n = omega arith
+none-more false n = omega arith
+
+-- the bytes from an offset up to another are finishes
+abbrev pub Finishes : List ℕ → ℕ → ℕ → Type 0
+Finishes b from past = (i : ℕ) → from ≤ i → i < past → getD b i 0 ≡ 18
+
+pub one-before : (b : List ℕ) (at past : ℕ) → getD b at 0 ≡ 18 → Finishes b (at + 1) past → Finishes b at past
+one-before b at past h all i ge lt = elim (ℕ-discrete i at) [
+  | yes e ↦ ap (λ j. getD b j 0) e ∙ h
+  | no ne ↦ all i (omega arith) lt
+]
+
+-- finishes that follow one another and leave the state as it is: each is turned down, or each is taken and idle
+module _
+    {s t : State} {b : List ℕ} (d : Bool) (told : turnsDown t Finish ≡ d) (still : d ≡ false → idle t Finish ≡ true) where
+  pass-finish : (at n : ℕ)
+      → Underway decode s b t at n
+      → firstCall (drop at b) ≡ Listed Finish
+      → Underway decode s b t (at + 1) (n + oneIf d)
+  pass-finish at n u h = go d refl
+    where
+      go : (x : Bool) → d ≡ x → Underway decode s b t (at + 1) (n + oneIf d)
+      go true e = skip-unclosed u (n + oneIf d) h (told ∙ e) (ap (λ (y : Bool). n + oneIf y) e)
+      go false e = skip-finished u (n + oneIf d) h (told ∙ e) (still e) (omega (arith, ap oneIf e))
+
+  pub pass-finishes : (k at n past m : ℕ)
+      → Underway decode s b t at n
+      → Finishes b at past
+      → past ≤ length b
+      → past ≡ at + k
+      → m ≡ n + cond d k 0
+      → Underway decode s b t past m
+  pass-finishes zero at n past m u all le e f = rw (at-end at past e, f, none-more d n) u
+  pass-finishes (suc k) at n past m u all le e f =
+      pass-finishes k (at + 1) (n + oneIf d) past m
+      (pass-finish at n u (finish-at b at (getD b at 0) refl (omega (arith, e, le)) (all at (omega arith) (omega (arith, e)))))
+      (λ i ge lt. all i (omega (arith, ge)) lt)
+      le
+      (omega (arith, e))
+      (f ∙ one-more d k n)

@@ -10,8 +10,8 @@ use scheduler::state::State;
 use sheet::read::read_sheet;
 ghost use mathlib.Core.Bool.{true};
 ghost use mathlib.Core.Path.{_≡_};
-ghost use Prim.Native.Nat.{_≤_};
-ghost use lib.ListN.{length};
+ghost use Prim.Native.Nat.{ℕ, _≤_, _<_};
+ghost use lib.ListN.{length, getD};
 ghost use Rattle.plan.specs.Calls.{decode};
 ghost use Rattle.scheduler.specs.declared.state.State.{State};
 ghost use Rattle.scheduler.specs.Coherent.{coherent};
@@ -100,67 +100,77 @@ struct Skipped {
 }
 
 // Skips the calls from an offset on that leave the state as it is, turned down or not, up to one that may change it, a
-// bad record or the end. Which events are open and which steps are closed is read once for all of them.
+// bad record or the last byte. Which events are open and which steps are closed is read once for all of them; the rest
+// is bytes alone, two at a time. The loop is kept so short that its place in memory matters little.
 fn skip_idle(state: State, calls: &[u8], from: usize, before: usize) -> Skipped
-    requires { ⌜ ((before ≤ from) × (from ≤ length (now calls))) ⌝ }
+    requires { ⌜ ((coherent state ≡ true) × (before ≤ from) × (from ≤ length (now calls))) ⌝ }
     ensures ahead { λ r. ⌜ from ≤ r .at ⌝ }
     ensures same { λ r. ⌜ ((s : State) → Underway decode s (now (calls .entry)) state from before → Underway decode s (now (calls .entry)) state (r .at) (r .refused)) ⌝ }
 {
-    let unclosed = state.turns_down(Call::Finish);
     let plan = state.plan;
+    let count = plan.event_count;
     let standings = state.standings;
     let closed = state.closed;
     let mut at = from;
     let mut refused = before;
-    loop {
-        let read = call_at(calls, at);
-        match read {
-            CallRead::Listed(made) => match made {
-                Call::Submit(event) => {
-                    if event < plan.event_count {
-                        if 16 <= event {
-                            return Skipped { at, refused };
-                        }
-                        let standing = standings[event as usize];
-                        let fate = standing.fate;
-                        if is_open(fate) {
-                            return Skipped { at, refused };
-                        }
-                    } else {
-                        refused += 1;
-                    }
-                    at += 2;
-                }
-                Call::Close(step) => {
-                    if 8 <= step {
-                        return Skipped { at, refused };
-                    }
-                    if !closed[step as usize] {
-                        return Skipped { at, refused };
-                    }
-                    refused += 1;
-                    at += 2;
-                }
-                Call::Finish => {
-                    if unclosed {
-                        refused += 1;
-                    } else {
-                        if !state.is_idle(Call::Finish) {
-                            return Skipped { at, refused };
-                        }
-                    }
-                    at += 1;
-                }
-                Call::Advance(minute) => {
+    while at + 1 < calls.len() {
+        let kind = calls[at];
+        let number = calls[at + 1];
+        if kind == 16 {
+            if number < count {
+                let standing = standings[number as usize];
+                let fate = standing.fate;
+                if is_open(fate) {
                     return Skipped { at, refused };
                 }
-            },
-            CallRead::End => {
-                return Skipped { at, refused };
+            } else {
+                refused += 1; // no such event
             }
-            CallRead::Bad => {
-                return Skipped { at, refused };
+            at += 2;
+        } else {
+            if kind == 17 {
+                if 8 <= number {
+                    return Skipped { at, refused };
+                }
+                if !closed[number as usize] {
+                    return Skipped { at, refused };
+                }
+                refused += 1;
+                at += 2;
+            } else {
+                if kind != 18 {
+                    return Skipped { at, refused };
+                }
+                let unclosed = state.turns_down(Call::Finish);
+                if !unclosed {
+                    if !state.is_idle(Call::Finish) {
+                        return Skipped { at, refused };
+                    }
+                }
+                let past = skip_finishes(calls, at + 1);
+                if unclosed {
+                    refused += past - at;
+                }
+                at = past;
             }
         }
     }
+    Skipped { at, refused }
+}
+
+// Skips the finishes that follow one another from an offset on: either each of them is turned down, or each is taken and
+// changes nothing.
+fn skip_finishes(calls: &[u8], from: usize) -> usize
+    requires { ⌜ from ≤ length (now calls) ⌝ }
+    ensures inside { λ r. ⌜ ((from ≤ r) × (r ≤ length (now (calls .entry)))) ⌝ }
+    ensures finishes { λ r. ⌜ ((i : ℕ) → from ≤ i → i < r → getD (now (calls .entry)) i 0 ≡ 18) ⌝ }
+{
+    let mut at = from;
+    while at < calls.len() {
+        if calls[at] != 18 {
+            return at;
+        }
+        at += 1;
+    }
+    at
 }

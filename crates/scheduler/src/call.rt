@@ -97,13 +97,25 @@ impl State {
         }
     }
 
-    // Submits an event without the coherence test, number 12; the caller has made it.
+    // Submits an event without the coherence test, number 12; the caller has made it. For an event that is not open the
+    // state is handed back and not copied.
     pub fn take_submit(self, event: u8) -> Reply
         ensures { λ r. ⌜ r ≡ takeCall self (Submit event) ⌝ }
     {
         let plan = self.plan;
         if plan.event_count <= event {
             return self.turn_down(CallFault::Unknown);
+        }
+        let before = self.standings;
+        if event < 16 {
+            let standing = before[event as usize];
+            let fate = standing.fate;
+            if !is_open(fate) {
+                return Reply {
+                    answer: Answer::Is(fate),
+                    state: self,
+                };
+            }
         }
         let course = self.after_submit(event);
         let state = self.with_course(course);

@@ -23,7 +23,7 @@ loop-holds : tie.Need-loop-holds Inv-loop μ-loop
 loop-holds c = begun _ _ _ (c .before .pre) (sized _ (c .before .good .0))
 
 skip-idle-requires : tie.Need-skip-idle-requires Inv-loop μ-loop
-skip-idle-requires c κs = (c .loop .inv .few, c .loop .inv .inside)
+skip-idle-requires c κs = let u = c .loop .inv in (u .passes, u .few, u .inside)
 
 call-at-requires : tie.Need-call-at-requires Inv-loop μ-loop
 call-at-requires c κs = tt
