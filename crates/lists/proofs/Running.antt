@@ -168,8 +168,9 @@ module _ (b : List ℕ) (at k : ℕ) (kind : k ≡ getD b at 0) where
   pub finish-at : at < length b → k ≡ 18 → firstCall (drop at b) ≡ Listed Finish
   unfolding firstCall
   finish-at some h =
-      let here : drop at b ≡ 18 ∷ drop (suc at) b = drop-cons b at 0 some ∙ ap (λ i. i ∷ drop (suc at) b) (sym kind ∙ h) in
-      ap firstCall here ∙ last (drop (suc at) b)
+      let rest = drop (suc at) b in
+      let here : drop at b ≡ 18 ∷ rest = drop-cons b at 0 some ∙ ap (λ i. i ∷ rest) (sym kind ∙ h) in
+      ap firstCall here ∙ last rest
     where
       last : (l : List ℕ) → firstCall (18 ∷ l) ≡ Listed Finish
       last [] = refl
@@ -190,7 +191,8 @@ module _ {s t : State} {b : List ℕ} {at n : ℕ} (u : Underway decode s b t at
       → idle t c ≡ true
       → m ≡ n
       → Underway decode s b t (at + callSize c) m
-  idle-here c h taken still f = again-idle decodes u (firstCall (drop at b)) refl c h (callSize c) refl t m taken still refl f
+  idle-here c h taken still f =
+      again-idle decodes u (firstCall (drop at b)) refl c h (callSize c) refl t m taken still refl f
 
   pub skip-unknown : (e : ℕ) → Here (Submit e) → eventCount (t .plan) ≤ e → m ≡ n + 1 → Underway decode s b t (at + 2) m
   skip-unknown e h ge f = refused-here (Submit e) h (sym (submit-turns t e) ∙ le-leb _ _ ge) f
@@ -269,8 +271,9 @@ module _
       → Underway decode s b t past m
   pass-finishes zero at n past m u all le e f = rw (at-end at past e, f, none-more d n) u
   pass-finishes (suc k) at n past m u all le e f =
+      let here = all at (omega arith) (omega (arith, e)) in
       pass-finishes k (at + 1) (n + oneIf d) past m
-      (pass-finish at n u (finish-at b at (getD b at 0) refl (omega (arith, e, le)) (all at (omega arith) (omega (arith, e)))))
+      (pass-finish at n u (finish-at b at (getD b at 0) refl (omega (arith, e, le)) here))
       (λ i ge lt. all i (omega (arith, ge)) lt)
       le
       (omega (arith, e))

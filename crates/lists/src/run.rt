@@ -158,8 +158,8 @@ fn skip_idle(state: State, calls: &[u8], from: usize, before: usize) -> Skipped
     Skipped { at, refused }
 }
 
-// Skips the finishes that follow one another from an offset on: either each of them is turned down, or each is taken and
-// changes nothing.
+// Skips the finishes that follow one another from an offset on. Its caller asks it where each of them is turned down, or
+// each is taken and changes nothing.
 fn skip_finishes(calls: &[u8], from: usize) -> usize
     requires { ⌜ from ≤ length (now calls) ⌝ }
     ensures inside { λ r. ⌜ ((from ≤ r) × (r ≤ length (now (calls .entry)))) ⌝ }

@@ -1,4 +1,5 @@
--- `skip_idle` meets its contract. The loop: every record passed leaves the state as it is, so the run is under way as before.
+-- `skip_idle` meets its contract. The loop: every record passed leaves the state as it is, so the run is under way as
+-- before.
 use Prim.Native.Nat.{_≤_, _-_}
 use native.Mathlib.Nat.{add-zero}
 use native.Mathlib.Omega.{arith}
