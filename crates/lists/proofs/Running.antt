@@ -25,7 +25,7 @@ use Rattle.scheduler.specs.Runner.{ranOn}
 use Rattle.scheduler.proofs.Branches.{call-fault, call-accept}
 use Rattle.scheduler.proofs.CallSteps.{turned-down, not-turned-down, idle-same, submit-turns, close-turns, submit-idle}
 use Rattle.theory.proofs.Coherence.{call-coherent, sized-call, call-taken, fault-answer}
-use Rattle.lists.specs.Internal.Underway.{outcomeFrom, Underway}
+use Rattle.lists.specs.Internal.Underway.{outcomeFrom, Underway, Finishes}
 use Rattle.lists.specs.Types.{Call, Submit, Close, Finish, CallRead, Listed, End, Bad, State, Admitted, Reply, Outcome}
 
 -- what a list comes to that stops here
@@ -165,7 +165,7 @@ module _ (b : List ℕ) (at k : ℕ) (kind : k ≡ getD b at 0) where
     pub close-at : k ≡ 17 → firstCall (drop at b) ≡ Listed (Close x)
     close-at h = record-at ∙ rw h refl
 
-  pub finish-at : at < length b → k ≡ 18 → firstCall (drop at b) ≡ Listed Finish
+  finish-at : at < length b → k ≡ 18 → firstCall (drop at b) ≡ Listed Finish
   unfolding firstCall
   finish-at some h =
       let rest = drop (suc at) b in
@@ -218,16 +218,7 @@ module _ {s t : State} {b : List ℕ} {at n : ℕ} (u : Underway decode s b t at
       ∙ or-right-true (not (hasEvent (t .plan) j)))
       f
 
-  pub skip-unclosed : Here Finish → turnsDown t Finish ≡ true → m ≡ n + 1 → Underway decode s b t (at + 1) m
-  skip-unclosed h down f = refused-here Finish h down f
-
-  pub skip-finished : Here Finish
-      → turnsDown t Finish ≡ false
-      → idle t Finish ≡ true
-      → m ≡ n
-      → Underway decode s b t (at + 1) m
-  skip-finished h taken still f = idle-here Finish h taken still f
-
+-- what k finishes add to the calls turned down, where each is turned down (d) or none is
 one-more : (d : Bool) (k n : ℕ) → n + cond d (suc k) 0 ≡ n + oneIf d + cond d k 0
 one-more true k n = omega arith
 one-more false k n = omega arith
@@ -239,10 +230,6 @@ none-more : (d : Bool) (n : ℕ) → n + cond d 0 0 ≡ n
 none-more true n = omega arith
 none-more false n = omega arith
 
--- the bytes from an offset up to another are finishes
-abbrev pub Finishes : List ℕ → ℕ → ℕ → Type 0
-Finishes b from past = (i : ℕ) → from ≤ i → i < past → getD b i 0 ≡ 18
-
 pub one-before : (b : List ℕ) (at past : ℕ) → getD b at 0 ≡ 18 → Finishes b (at + 1) past → Finishes b at past
 one-before b at past h all i ge lt = elim (ℕ-discrete i at) [
   | yes e ↦ ap (λ j. getD b j 0) e ∙ h
@@ -251,7 +238,8 @@ one-before b at past h all i ge lt = elim (ℕ-discrete i at) [
 
 -- finishes that follow one another and leave the state as it is: each is turned down, or each is taken and idle
 module _
-    {s t : State} {b : List ℕ} (d : Bool) (told : turnsDown t Finish ≡ d) (still : d ≡ false → idle t Finish ≡ true) where
+    {s t : State} {b : List ℕ} (d : Bool)
+    (told : turnsDown t Finish ≡ d) (still : d ≡ false → idle t Finish ≡ true) where
   pass-finish : (at n : ℕ)
       → Underway decode s b t at n
       → firstCall (drop at b) ≡ Listed Finish
@@ -259,8 +247,8 @@ module _
   pass-finish at n u h = go d refl
     where
       go : (x : Bool) → d ≡ x → Underway decode s b t (at + 1) (n + oneIf d)
-      go true e = skip-unclosed u (n + oneIf d) h (told ∙ e) (ap (λ (y : Bool). n + oneIf y) e)
-      go false e = skip-finished u (n + oneIf d) h (told ∙ e) (still e) (omega (arith, ap oneIf e))
+      go true e = refused-here u (n + oneIf d) Finish h (told ∙ e) (ap (λ (y : Bool). n + oneIf y) e)
+      go false e = idle-here u (n + oneIf d) Finish h (told ∙ e) (still e) (omega (arith, ap oneIf e))
 
   pub pass-finishes : (k at n past m : ℕ)
       → Underway decode s b t at n

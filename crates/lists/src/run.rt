@@ -10,8 +10,8 @@ use scheduler::state::State;
 use sheet::read::read_sheet;
 ghost use mathlib.Core.Bool.{true};
 ghost use mathlib.Core.Path.{_≡_};
-ghost use Prim.Native.Nat.{ℕ, _≤_, _<_};
-ghost use lib.ListN.{length, getD};
+ghost use Prim.Native.Nat.{_≤_};
+ghost use lib.ListN.{length};
 ghost use Rattle.plan.specs.Calls.{decode};
 ghost use Rattle.scheduler.specs.declared.state.State.{State};
 ghost use Rattle.scheduler.specs.Coherent.{coherent};
@@ -19,7 +19,7 @@ ghost use Rattle.scheduler.specs.Sheet.{readSheet, admitted};
 ghost use Rattle.scheduler.specs.Lists.{scheduler};
 ghost use Rattle.scheduler.specs.Runner.{ranOn, runOf};
 ghost use Rattle.scheduler.specs.Demand.{Demand3, seen};
-ghost use Rattle.lists.specs.Internal.Underway.{Underway};
+ghost use Rattle.lists.specs.Internal.Underway.{Underway, Finishes};
 
 // Runs the calls on the sheet. A record that is cut or of another kind ends the list and counts as one call turned
 // down. On a sheet that is turned down no call is made. The guarantee (demand 3) is true of every admitted sheet and
@@ -158,12 +158,12 @@ fn skip_idle(state: State, calls: &[u8], from: usize, before: usize) -> Skipped
     Skipped { at, refused }
 }
 
-// Skips the finishes that follow one another from an offset on. Its caller asks it where each of them is turned down, or
-// each is taken and changes nothing.
+// Skips the finishes that follow one another from an offset on. Its caller asks for it where each of them is turned
+// down, or each is taken and changes nothing.
 fn skip_finishes(calls: &[u8], from: usize) -> usize
     requires { ⌜ from ≤ length (now calls) ⌝ }
     ensures inside { λ r. ⌜ ((from ≤ r) × (r ≤ length (now (calls .entry)))) ⌝ }
-    ensures finishes { λ r. ⌜ ((i : ℕ) → from ≤ i → i < r → getD (now (calls .entry)) i 0 ≡ 18) ⌝ }
+    ensures finishes { λ r. ⌜ Finishes (now (calls .entry)) from r ⌝ }
 {
     let mut at = from;
     while at < calls.len() {

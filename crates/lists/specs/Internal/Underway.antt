@@ -1,9 +1,9 @@
--- A list under way: what the calls that are left come to.
-use Prim.Native.Nat.{ℕ, _+_, _≤_}
+-- A list under way: what the calls that are left come to, and bytes that are finishes in a row.
+use Prim.Native.Nat.{ℕ, _+_, _≤_, _<_}
 use mathlib.Core.Bool.{true}
 use mathlib.Core.List.{List}
 use mathlib.Core.Path.{_≡_}
-use lib.ListN.{length, drop}
+use lib.ListN.{length, getD, drop}
 use Rattle.plan.specs.Base.{oneIf}
 use Rattle.plan.specs.Calls.{Decoded}
 use Rattle.scheduler.specs.State.{Sized}
@@ -28,3 +28,7 @@ pub record Underway (decoding : List ℕ → Decoded) (s : State) (b : List ℕ)
   pub few : n ≤ at
   pub passes : coherent t ≡ true
   pub sized : Sized t
+
+-- the bytes from an offset up to another are finishes
+abbrev pub Finishes : List ℕ → ℕ → ℕ → Type 0
+Finishes b from past = (i : ℕ) → from ≤ i → i < past → getD b i 0 ≡ 18

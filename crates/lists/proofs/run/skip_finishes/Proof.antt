@@ -3,9 +3,9 @@ use Prim.Native.Nat.{_≤_, _-_}
 use native.Mathlib.Decide.{ℕ-discrete}
 use native.Mathlib.Omega.{arith}
 use borrow.Author.Needs.{needs}
-use mathlib.Core.Path.{sym, _∙_, ap}
+use mathlib.Core.Path.{_∙_, ap}
 use lib.ListN.{length, getD}
-use Rattle.lists.proofs.Running.{Finishes}
+use Rattle.lists.specs.Internal.Underway.{Finishes}
 use Rattle.lists.proofs.run.skip_finishes.Statement.{statement}
 use Rattle.lists.proofs.run.skip_finishes.Tie as tie
 
