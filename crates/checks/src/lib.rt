@@ -1,4 +1,6 @@
 // Tests of single events, fates, rules and windows, the numbers of faults and answers, and the reading of call records.
+#![tactic(auto)]
+
 pub mod answer;
 pub mod bytes;
 pub mod calls;

@@ -1,6 +1,8 @@
 // Reads sheet.bin and calls.bin in the working directory and prints the report on standard output. If a file or the
 // output fails, one line on standard error says so, and so does the answer, which a program in C gives as its exit
 // status.
+#![tactic(auto)]
+
 ghost use Rattle.std.specs.Prelude.{◌+◌, ◌≤◌, min, ◌≡◌, length};
 ghost use Rattle.io.specs.Counts.{IsPrefixLen};
 ghost use Rattle.scheduler.specs.Runner.{run_of, report};

@@ -1,5 +1,7 @@
 // A state as the 384 bytes that a host keeps (include/sinewhopa.h): which bytes are an image, the state that they stand
 // for, the bytes of a state, and calls on an image. The definitions are in specs/.
+#![tactic(auto)]
+
 pub mod kept;
 pub mod number;
 pub mod read;

@@ -1,4 +1,6 @@
 // Bytes put into a page one after another, and a text copied into a buffer that a caller lends.
+#![tactic(auto)]
+
 ghost use Rattle.std.specs.Prelude.{◌≡◌};
 ghost use Rattle.pages.specs.Filled.{filled};
 ghost use Rattle.pages.specs.Written.{end_after, page_after};

@@ -1,4 +1,6 @@
 // What a caller can read of a state. An undeclared number is answered as undeclared, never as "open".
+#![tactic(auto)]
+
 ghost use Rattle.std.specs.Prelude.{◌≡◌};
 ghost use Rattle.plan.specs.Plans.{event_count, rule_count};
 ghost use Rattle.scheduler.specs.State.{line_count};

@@ -1,4 +1,6 @@
 // An outcome's report, written into a buffer that the caller lends.
+#![tactic(auto)]
+
 mod page;
 mod text;
 

@@ -1,5 +1,7 @@
 // Runs the reader of sheets, the search, single calls and the readers of a state on small sheets and prints what each
 // gives. The gate compares this with the file `stdout`.
+#![tactic(auto)]
+
 use checks::answer::{call_fault_number, sheet_fault_number};
 use libc::STDOUT_FILENO;
 use plan::answer::{Answer, Verdict};

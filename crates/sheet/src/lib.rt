@@ -1,4 +1,6 @@
 // Reading a sheet (docs/SPECIFICATION.md, sections 3 and 4).
+#![tactic(auto)]
+
 mod declare;
 mod fault;
 pub mod kind;

@@ -1,6 +1,8 @@
 // The static library: the functions that include/sinewhopa.h declares. The run of a whole list is here. On a state that
 // the host keeps, single calls are in state.rt, batches in batches.rt, previews in previews.rt, and the state written
 // out as a sheet in sheets.rt. Journals are in journals.rt, the version in version.rt.
+#![tactic(auto)]
+
 pub mod batches;
 pub mod journals;
 pub mod previews;

@@ -1,1 +1,2 @@
 // No code: the theorems about the definitions of `scheduler`, in proofs/.
+#![tactic(auto)]
