@@ -30,7 +30,7 @@ pub fn submit_all(state: State, entries: &mut [BatchEntry]) -> Reply
 }
 
 // Whether a batch is accepted, and its answer.
-#[derive(Drop)]
+#[derive(Clone, Copy)]
 pub(crate) struct Judged {
     pub taken: bool,
     pub answer: Answer,

@@ -13,7 +13,7 @@ use scheduler::state::State;
 // A submit (hand in, kind 16) or a closing (kind 17) with its number, and its answer: the number that turned it down,
 // or 0, and the fate of an event that was submitted (9.11, 9.13).
 #[repr(C)]
-#[derive(Drop)]
+#[derive(Clone, Copy)]
 pub struct BatchEntry {
     pub kind: u8,
     pub number: u8,
@@ -22,7 +22,7 @@ pub struct BatchEntry {
 }
 
 // The state after an entry's turn, and the entry with its answer.
-#[derive(Drop)]
+#[derive(Clone, Copy)]
 pub(crate) struct Answered {
     pub state: State,
     pub entry: BatchEntry,

@@ -10,7 +10,7 @@ use plan::history::Entry;
 
 // What one pass over the lines tells: whether each line may stand there, which events have a line, and for each done
 // event the place of its line, counted from 1; 0 for the others.
-#[derive(Drop)]
+#[derive(Clone, Copy)]
 pub struct Listing {
     pub ok: bool,
     pub listed: [bool; 16],

@@ -14,7 +14,7 @@ use libc::{STDERR_FILENO, STDOUT_FILENO};
 const LIMIT: usize = 65536;
 
 // What reading a file gave: whether it was read, and how many of its bytes count.
-#[derive(Drop)]
+#[derive(Clone, Copy)]
 struct Contents {
     is_read: bool,
     len: usize,

@@ -4,7 +4,7 @@ use plan::answer::{CallFault, SheetFault};
 // Appended: the record's offset and the new length. TooLong, number 14: the stated length is above the buffer's.
 // BadSheet and BadRecord: the journal does not open. TurnedDown: the call's fault. NoRoom, number 14. The last number of
 // TurnedDown and of NoRoom is the offset behind the last whole record.
-#[derive(Drop)]
+#[derive(Clone, Copy)]
 pub enum AppendAnswer {
     Appended(usize, usize),
     TooLong,
@@ -15,7 +15,7 @@ pub enum AppendAnswer {
 }
 
 // What appending answers a host: the number, the journal's length after it, and an offset.
-#[derive(Drop)]
+#[derive(Clone, Copy)]
 pub struct AppendReply {
     pub number: u8,
     pub len: usize,

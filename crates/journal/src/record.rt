@@ -2,7 +2,7 @@
 use plan::calls::Call;
 
 // What bytes hold at an offset: a whole record of a call; nothing, or a record that is cut; or another record.
-#[derive(Drop)]
+#[derive(Clone, Copy)]
 pub enum RecordRead {
     Whole(Call),
     Short,
@@ -10,14 +10,14 @@ pub enum RecordRead {
 }
 
 // A call's record: its bytes, with 0 behind them, and how many it has.
-#[derive(Drop)]
+#[derive(Clone, Copy)]
 pub struct CallRecord {
     pub bytes: [u8; 8],
     pub size: usize,
 }
 
 // What a kind and a number ask for: a call, or none, with the number by which it is turned down.
-#[derive(Drop)]
+#[derive(Clone, Copy)]
 pub enum Asked {
     Wanted(Call),
     Wrong(u8),

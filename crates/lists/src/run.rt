@@ -90,7 +90,7 @@ fn take_calls(state: State, calls: &[u8]) -> Outcome
 }
 
 // Where a list goes on after calls that change nothing, and how many calls were turned down by then.
-#[derive(Drop)]
+#[derive(Clone, Copy)]
 struct Skipped {
     pub at: usize,
     pub refused: usize,

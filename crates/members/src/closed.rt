@@ -13,7 +13,7 @@ use super::view::View;
 use plan::rule::{Rule, RuleLine};
 
 // A set of events, and how many it has; or that no set will do.
-#[derive(Drop)]
+#[derive(Clone, Copy)]
 pub struct Members {
     pub ok: bool,
     pub set: u16,

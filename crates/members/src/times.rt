@@ -7,7 +7,7 @@ use checks::window::{is_allowed, is_over};
 use plan::window::Window;
 
 // The events that may be done now, and those whose window is over.
-#[derive(Drop)]
+#[derive(Clone, Copy)]
 pub struct Times {
     pub timely: u16,
     pub late: u16,

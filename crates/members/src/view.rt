@@ -15,7 +15,7 @@ use plan::fate::Standing;
 // Sets of events: the declared ones that are held; the declared ones at hand (held, or open and forcible); those that
 // are done; those refused or lapsed; the delayable ones; the stoppable ones (not open, or rejectable, or delayable);
 // and the forcible ones.
-#[derive(Drop)]
+#[derive(Clone, Copy)]
 pub struct View {
     pub held: u16,
     pub able: u16,
@@ -51,7 +51,7 @@ pub fn view_of(events: [Event; 16], count: u8, standings: [Standing; 16]) -> Vie
 
 // What single fates and attributes say of the sixteen events: those held, open, and refused or lapsed; the delayable,
 // the forcible and the rejectable ones.
-#[derive(Drop)]
+#[derive(Clone, Copy)]
 struct Facts {
     pub held: u16,
     pub comes: u16,

@@ -2,7 +2,7 @@
 use super::fate::Fate;
 
 // Why a sheet is turned down, in the order of the numbers 1 to 8 and 15.
-#[derive(Drop)]
+#[derive(Clone, Copy)]
 pub enum SheetFault {
     Cut,
     BadKind,
@@ -16,7 +16,7 @@ pub enum SheetFault {
 }
 
 // Why a call is turned down, in the order of the numbers 9 to 14 and 16; 13 is for a batch, and 14 for a lent buffer.
-#[derive(Drop)]
+#[derive(Clone, Copy)]
 pub enum CallFault {
     Unknown,
     AlreadyClosed,
@@ -28,7 +28,7 @@ pub enum CallFault {
 }
 
 // What a call answers: a submit (hand in) the event's fate, any other call that it was made.
-#[derive(Drop)]
+#[derive(Clone, Copy)]
 pub enum Answer {
     Is(Fate),
     Made,
@@ -36,14 +36,14 @@ pub enum Answer {
 }
 
 // The fate that an answer gives: an accepted submit answers one, nothing else does.
-#[derive(Drop)]
+#[derive(Clone, Copy)]
 pub enum FateAnswered {
     Is(Fate),
     Nothing,
 }
 
 // What reading a sheet gives: it is admitted, or the fault and its offset.
-#[derive(Drop)]
+#[derive(Clone, Copy)]
 pub enum Verdict {
     Admitted,
     Faulty(SheetFault, usize),

@@ -2,7 +2,7 @@
 
 // Where an event is: still to come, waiting, or settled in one of four ways (5.1, 5.2). A forced event was open when
 // the scheduler did it.
-#[derive(Drop)]
+#[derive(Clone, Copy)]
 pub enum Fate {
     Open,
     Held,
@@ -13,7 +13,7 @@ pub enum Fate {
 }
 
 // An event's fate in its place.
-#[derive(Drop)]
+#[derive(Clone, Copy)]
 pub struct Standing {
     pub fate: Fate,
 }

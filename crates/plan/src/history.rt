@@ -2,7 +2,7 @@
 use super::fate::Fate;
 
 // A line of the history: an event with its fate.
-#[derive(Drop)]
+#[derive(Clone, Copy)]
 pub struct Entry {
     pub event: u8,
     pub fate: Fate,

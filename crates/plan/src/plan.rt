@@ -4,7 +4,7 @@ use super::rule::RuleLine;
 use super::window::Window;
 
 // Events with their step and attributes, rules, and a window for each event. No call changes a plan.
-#[derive(Drop)]
+#[derive(Clone, Copy)]
 pub struct Plan {
     pub event_count: u8,
     pub windows: [Window; 16],

@@ -1,7 +1,7 @@
 // Rules. The tests of a single rule are in `checks`; what a rule forbids and owes is asked of sets, in `members`.
 
 // Order a, b: a before b. Need a, b: a only if b. Conditional a, b, c: if a and b, then c.
-#[derive(Drop)]
+#[derive(Clone, Copy)]
 pub enum Rule {
     Order(u8, u8),
     Need(u8, u8),
@@ -9,13 +9,13 @@ pub enum Rule {
 }
 
 // A rule in its place.
-#[derive(Drop)]
+#[derive(Clone, Copy)]
 pub struct RuleLine {
     pub rule: Rule,
 }
 
 // The events that a rule names, by their place in it.
-#[derive(Drop)]
+#[derive(Clone, Copy)]
 pub struct Names {
     pub first: u8,
     pub second: u8,

@@ -11,7 +11,7 @@ use plan::history::Entry;
 use scheduler::state::State;
 
 // How many lines of a history say done, refused, lapsed and forced.
-#[derive(Drop)]
+#[derive(Clone, Copy)]
 pub struct Counts {
     pub done: u8,
     pub refused: u8,
@@ -20,7 +20,7 @@ pub struct Counts {
 }
 
 // What a preview gives: the counts, or why the submit would be turned down.
-#[derive(Drop)]
+#[derive(Clone, Copy)]
 pub enum PreviewReply {
     Counted(Counts),
     TurnedDown(CallFault),

@@ -14,32 +14,32 @@ use plan::history::Entry;
 use plan::rule::Rule;
 use scheduler::state::State;
 
-#[derive(Drop)]
+#[derive(Clone, Copy)]
 pub enum FateRead {
     Is(Fate),
     Undeclared,
 }
 
-#[derive(Drop)]
+#[derive(Clone, Copy)]
 pub enum EventRead {
     Is(Event),
     Undeclared,
 }
 
-#[derive(Drop)]
+#[derive(Clone, Copy)]
 pub enum RuleRead {
     Is(Rule),
     Undeclared,
 }
 
-#[derive(Drop)]
+#[derive(Clone, Copy)]
 pub enum EntryRead {
     Is(Entry),
     Undeclared,
 }
 
 // Whether a step is closed or a rule recorded as broken.
-#[derive(Drop)]
+#[derive(Clone, Copy)]
 pub enum Mark {
     Yes,
     No,

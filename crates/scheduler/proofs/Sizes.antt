@@ -1,7 +1,5 @@
 -- A state that a function was given has arrays of their lengths: what owning it tells.
 use mathlib.Core.List.{List}
-use mathlib.Core.Path.{sym, ◌∙◌}
-use lib.ListN.{length-map}
 use mir.Val.{Val}
 use denote.Laws.{Is}
 use denote.Struct.Declared.{row}
@@ -11,8 +9,8 @@ use Rattle.scheduler.specs.State.{Sized}
 
 pub sized : (s : State) {vs : List Val} → Is (row the_type) s vs → Sized s
 sized s g = record {
-  standings_len = sym (length-map s.standings _) ∙ g.1.1.1.0.1.0.1;
-  broken_len = sym (length-map s.broken _) ∙ g.1.1.1.1.0.1.0.1;
-  closed_len = sym (length-map s.closed _) ∙ g.1.1.1.1.1.0.1.0.1;
-  history_len = sym (length-map s.history _) ∙ g.1.1.1.1.1.1.0.1.0.1;
+  standings_len = g.1.1.1.0.1.0.1;
+  broken_len = g.1.1.1.1.0.1.0.1;
+  closed_len = g.1.1.1.1.1.0.1.0.1;
+  history_len = g.1.1.1.1.1.1.0.1.0.1;
 }

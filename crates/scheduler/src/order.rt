@@ -19,7 +19,7 @@ use members::view::{View, view_after, view_of};
 
 // What a search for an order gives: the order's events from the front and zeros after them, which of them were open
 // when their turn came, and the order's length.
-#[derive(Drop)]
+#[derive(Clone, Copy)]
 pub struct Found {
     pub ok: bool,
     pub events: [u8; 6],

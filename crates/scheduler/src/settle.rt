@@ -25,7 +25,7 @@ use plan::rule::RuleLine;
 const EVERY_EVENT: u16 = 65535;
 
 // Whether a turn was possible, and the state after it.
-#[derive(Drop)]
+#[derive(Clone, Copy)]
 pub(crate) struct Turned {
     pub moved: bool,
     pub state: State,

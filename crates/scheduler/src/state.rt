@@ -9,7 +9,7 @@ use plan::history::Entry;
 use plan::plan::Plan;
 
 // A plan and what has happened (5.4).
-#[derive(Drop)]
+#[derive(Clone, Copy)]
 pub struct State {
     pub plan: Plan,
     pub standings: [Standing; 16],
@@ -21,7 +21,7 @@ pub struct State {
 }
 
 // The part of a state that calls change: all but the plan. Calls give this, so that no plan is copied for each.
-#[derive(Drop)]
+#[derive(Clone, Copy)]
 pub struct Course {
     pub standings: [Standing; 16],
     pub broken: [bool; 16],
@@ -32,7 +32,7 @@ pub struct Course {
 }
 
 // What settling an event writes.
-#[derive(Drop)]
+#[derive(Clone, Copy)]
 pub(crate) struct Written {
     pub standings: [Standing; 16],
     pub history: [Entry; 16],

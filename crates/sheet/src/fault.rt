@@ -13,7 +13,7 @@ use plan::record::Record;
 use plan::rule::Rule;
 
 // What the tests of a record give: it is fine, or its first fault.
-#[derive(Drop)]
+#[derive(Clone, Copy)]
 pub(crate) enum Check {
     Fine,
     Bad(SheetFault),

@@ -14,7 +14,7 @@ use plan::record::Record;
 use scheduler::reply::Reading;
 
 // What reading a record gives: whether it ends the reading, and the verdict on the sheet if it does.
-#[derive(Drop)]
+#[derive(Clone, Copy)]
 pub(crate) struct Judged {
     pub stops: bool,
     pub verdict: Verdict,

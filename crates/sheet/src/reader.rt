@@ -7,7 +7,7 @@ use super::kind::body_length;
 use super::record::record_at;
 use plan::record::Record;
 
-#[derive(Drop)]
+#[derive(Clone, Copy)]
 pub(crate) struct Reader<'a> {
     pub sheet: &'a [u8],
     pub at: usize,

@@ -10,7 +10,7 @@ use scheduler::state::State;
 
 // What writing a sheet gives: whether it is accepted, and the sheet's length, also if the buffer is too short; 0 if the
 // state is not coherent, number 12.
-#[derive(Drop)]
+#[derive(Clone, Copy)]
 pub struct SheetReply {
     pub answer: Answer,
     pub length: usize,
