@@ -1,0 +1,6 @@
+-- `without` meets its contract.
+use Rattle.members.proofs.Bits.{in_less}
+use Rattle.members.proofs.set.without.Goals as goal
+
+pub returns : goal.returns
+returns c = in_less _ _

@@ -1,0 +1,10 @@
+-- `times_of` meets its contract. The loop: each set has the events below e that pass its test.
+use Prim.Native.Nat.{◌-◌}
+use Rattle.members.proofs.Clocking.{Clocked}
+use Rattle.members.proofs.times.times_of.Given as goal
+
+abbrev pub invariant-loop-e : goal.invariant-loop-e
+invariant-loop-e l = Clocked l.windows l.minute l.timely l.late l.e
+
+abbrev pub decreases-loop-e : goal.decreases-loop-e
+decreases-loop-e l = 16 - l.e

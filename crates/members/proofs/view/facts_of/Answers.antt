@@ -1,0 +1,24 @@
+-- `facts_of` meets its contract. The loop: each set has the events below e that pass its test.
+use Prim.Native.Nat.{◌-◌}
+use Rattle.members.proofs.Views.{viewed_none, viewed_next}
+use Rattle.members.proofs.view.facts_of.Goals as goal
+
+pub loop-e-init : goal.loop-e-init
+loop-e-init c = viewed_none _ _
+
+pub loop-e-preserved : goal.loop-e-preserved
+loop-e-preserved c = viewed_next _ _ _ _ _ _ _ _ _ c.loop-e.invariant c.loop-e-test.true
+    _ _ _ _ _ _
+    _ _ _ _ _ _
+    c.is_held.ensures
+    c.with_if-held.ensures
+    c.is_open.ensures
+    c.with_if-comes.ensures
+    c.is_gone.ensures
+    c.with_if-gone.ensures
+    c.is_delayable.ensures
+    c.with_if-waits.ensures
+    c.is_forcible.ensures
+    c.with_if-forcible.ensures
+    c.is_rejectable.ensures
+    c.with_if-refusable.ensures
