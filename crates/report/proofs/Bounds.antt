@@ -3,16 +3,15 @@
 use Prim.Native.Nat.{ℕ, zero, suc, ◌+◌, ◌*◌, ◌/◌, ◌≤◌, ◌<◌}
 use native.Mathlib.Omega.{arith}
 use native.Mathlib.Decide.{dec_lt}
-use mathlib.Core.List.{List, [], ◌∷◌, ◌++◌, map}
+use mathlib.Core.List.{List, [], ◌∷◌, ◌++◌}
 use mathlib.Core.Path.{◌≡◌, refl, sym, ◌∙◌, ap}
-use lib.ListN.{length, get_or, take, drop, length-append, length-map, take-append-drop}
+use lib.ListN.{length, get_or, take, drop, length-append, take-append-drop}
 use mir.Val.{Val}
 use denote.Laws.{Is}
 use denote.Array.{each}
 use denote.Enum.Declared as enum
 use denote.Shadow.{shadow}
-use denote.Struct.Declared.{row, shape}
-use denote.Struct.Struct.{Struct}
+use denote.Struct.Declared.{row}
 use Rattle.plan.proofs.Tests.{count_le}
 use Rattle.report.specs.Types.{SheetFault, Cut, BadKind, Full, BadStep, BadAttributes, BadNames, Unenforceable, Extra, BadWindow, Outcome, Verdict, Admitted, Faulty, Fate, Open, Held, Done, Refused, Lapsed, Forced, Entry}
 use Rattle.plan.specs.Plans.{event_count, rule_count}
@@ -39,7 +38,7 @@ pub record Small (o : Outcome) : Type 0 where
 
 -- what owning the entries of a history tells
 entries_small : (h : List Entry) (us : List Val)
-    → shadow (each (Struct (shape the-entry.the_type)).Denot (Struct (shape the-entry.the_type)).own_val (map (the-entry.the_type).to h) us)
+    → shadow (each (the-entry.the_row).Denot (the-entry.the_row).own_val h us)
     → (i : ℕ)
     → (get_or h i blank_entry).event < 256
 entries_small [] us g i = omega arith
@@ -64,7 +63,7 @@ small o g = let s = g.1.1.1.0 in record {
   events = s.1.1.0.1.1.0.1;
   rules = s.1.1.0.1.1.1.1.1.1.0.1;
   entries = entries_small o.state.history s.1.1.1.1.1.1.0.0 s.1.1.1.1.1.1.0.1.1;
-  places = sym (length-map o.state.history _) ∙ s.1.1.1.1.1.1.0.1.0.1;
+  places = s.1.1.1.1.1.1.0.1.0.1;
   refused = g.1.1.1.1.0.1;
   offset = offset_small o.verdict g.1.1.0;
 }

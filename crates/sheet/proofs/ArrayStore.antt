@@ -1,10 +1,10 @@
 -- A store to one element of an array that lies in a cell, for the walks by hand: the element is a part of the cell, and
--- what a struct's array field relates to its elements holds of the list with the new one.
+-- what an array relates to its elements holds of the list with the new one.
 use mathlib.Core.Path.{◌≡◌, refl, sym, ◌∙◌, ap, subst}
 use Prim.Native.Nat.{ℕ, zero, suc, ◌+◌, ◌<◌}
 use native.Mathlib.Nat.{not-suc-le-zero, le_of_suc-le-suc}
 use mathlib.Core.List.{List, [], ◌∷◌, map}
-use lib.ListN.{length, get_or, set, length-map, length-set}
+use lib.ListN.{length, get_or, set, length-set}
 use lib.Seq.{set-get_or}
 use seplogic.Ra.Ura.{Ura}
 use mir.Syntax.{Ty, ty_array}
@@ -16,11 +16,11 @@ use prog.Model.{elems}
 use types.Logic.{Logic}
 use types.Kit.{Item, ‵, raw, ◌⊛◌, mean, ◌$◌, ◌∵◌, !, qed, move, use1, use2, split, assume, frame, each as for-each, done}
 use types.Part.{Part}
-use denote.Array.{each, array_val}
+use denote.Array.{Array, each, array_val}
 use denote.Index.{place}
 use denote.Laws.{Is}
+use denote.RattleType.{RattleType}
 use denote.Shadow.{shadow}
-use denote.Struct.Field.{Field, array_field}
 
 -- f of each after a store
 pub map_set : {X Y : Type 0} (f : X → Y) (l : List X) (i : ℕ) (y : X) → set (map f l) i (f y) ≡ map f (set l i y)
@@ -29,10 +29,10 @@ map_set f (x ∷ l) zero y = refl
 map_set {X} {Y} f (x ∷ l) (suc i) y = ap (λ (r : List Y). f x ∷ r) (map_set f l i y)
 
 -- each element is related to its machine value, and so it is after a store
-module _ (F : Field) (y : F.Value) (w : Val) (is : Is F.row (F.into y) (w ∷ [])) where
-  each_set : (xs : List F.Value) (us : List Val) (i : ℕ)
-      → shadow (each F.row.Denot F.row.own_val (map F.into xs) us)
-      → shadow (each F.row.Denot F.row.own_val (map F.into (set xs i y)) (set us i w))
+module _ (R : RattleType) (y : R.Denot) (w : Val) (is : Is R y (w ∷ [])) where
+  each_set : (xs : List R.Denot) (us : List Val) (i : ℕ)
+      → shadow (each R.Denot R.own_val xs us)
+      → shadow (each R.Denot R.own_val (set xs i y) (set us i w))
   each_set [] [] i s = s
   each_set [] (u ∷ us) i s = absurd s
   each_set (x ∷ xs) [] i s = absurd s
@@ -40,12 +40,12 @@ module _ (F : Field) (y : F.Value) (w : Val) (is : Is F.row (F.into y) (w ∷ []
   each_set (x ∷ xs) (u ∷ us) (suc i) s = (s.0, each_set xs us i s.1)
 
   -- the same of an array
-  pub array_set : (n : ℕ) (xs : List F.Value) (vs : List Val) (i : ℕ) (is_all : Is (array_field F n).row ((array_field F n).into xs) vs)
-      → Is (array_field F n).row ((array_field F n).into (set xs i y)) (array_val (set is_all.0 i w) ∷ [])
+  pub array_set : (n : ℕ) (xs : List R.Denot) (vs : List Val) (i : ℕ) (is_all : Is (Array R n) xs vs)
+      → Is (Array R n) (set xs i y) (array_val (set is_all.0 i w) ∷ [])
   array_set n xs vs i p = (
     set p.0 i w,
     (
-      (refl, length-map (set xs i y) F.into ∙ length-set xs i y ∙ sym (length-map xs F.into) ∙ p.1.0.1),
+      (refl, length-set xs i y ∙ p.1.0.1),
       each_set xs p.0 i p.1.1,
     ),
   )

@@ -1,6 +1,6 @@
 -- A plan with an event or a rule stored in its next place: what the plan's type asks of it, and that it is the plan with
 -- the event or the rule added.
-use mathlib.Core.Path.{◌≡◌, refl, sym, ◌∙◌, subst}
+use mathlib.Core.Path.{◌≡◌, refl, ◌∙◌, subst}
 use Prim.Native.Nat.{ℕ, ◌+◌, ◌<◌, ◌^◌}
 use mathlib.Core.List.{List, [], ◌∷◌, map}
 use lib.ListN.{length, set, length-map}
@@ -55,10 +55,10 @@ plan_val es n ls m ws =
 module _ (p : Plan) (is : IsPlan p) where
   -- a plan's arrays have 16 places
   pub events_long : length (map E'.lowered p.events) ≡ 16
-  events_long = length-map p.events E'.lowered ∙ sym (length-map p.events (E.the_field).into) ∙ is.1.1.1.1.0.1.0.1
+  events_long = length-map p.events E'.lowered ∙ is.1.1.1.1.0.1.0.1
 
   pub rules_long : length (map L'.lowered p.rules) ≡ 16
-  rules_long = length-map p.rules L'.lowered ∙ sym (length-map p.rules (L.the_field).into) ∙ is.1.1.1.1.1.0.1.0.1
+  rules_long = length-map p.rules L'.lowered ∙ is.1.1.1.1.1.0.1.0.1
 
   module _ (e : Event) (isE : IsEvent e) (fits : event_count p + 1 < 2 ^ 8) where
     made_event : Is P.the_row (with_event p e)
@@ -69,7 +69,7 @@ module _ (p : Plan) (is : IsPlan p) where
         refl,
         (
           (refl, fits),
-          ((is.1.1.1.0.0, ((refl, is.1.1.1.0.1.0.1), is.1.1.1.0.1.1)), (array_set E.the_field e (E'.lowered e) isE 16 p.events _ (event_count p) is.1.1.1.1.0, ((is.1.1.1.1.1.0.0, ((refl, is.1.1.1.1.1.0.1.0.1), is.1.1.1.1.1.0.1.1)), ((refl, is.1.1.1.1.1.1.0.1), tt)))),
+          ((is.1.1.1.0.0, ((refl, is.1.1.1.0.1.0.1), is.1.1.1.0.1.1)), (array_set E.the_row e (E'.lowered e) isE 16 p.events _ (event_count p) is.1.1.1.1.0, ((is.1.1.1.1.1.0.0, ((refl, is.1.1.1.1.1.0.1.0.1), is.1.1.1.1.1.0.1.1)), ((refl, is.1.1.1.1.1.1.0.1), tt)))),
         ),
       ),
     )
@@ -86,7 +86,7 @@ module _ (p : Plan) (is : IsPlan p) where
         refl,
         (
           (refl, is.1.1.0.1),
-          ((is.1.1.1.0.0, ((refl, is.1.1.1.0.1.0.1), is.1.1.1.0.1.1)), ((is.1.1.1.1.0.0, ((refl, is.1.1.1.1.0.1.0.1), is.1.1.1.1.0.1.1)), (array_set L.the_field l (L'.lowered l) isL 16 p.rules _ (rule_count p) is.1.1.1.1.1.0, ((refl, fits), tt)))),
+          ((is.1.1.1.0.0, ((refl, is.1.1.1.0.1.0.1), is.1.1.1.0.1.1)), ((is.1.1.1.1.0.0, ((refl, is.1.1.1.1.0.1.0.1), is.1.1.1.1.0.1.1)), (array_set L.the_row l (L'.lowered l) isL 16 p.rules _ (rule_count p) is.1.1.1.1.1.0, ((refl, fits), tt)))),
         ),
       ),
     )

@@ -138,7 +138,7 @@ lapses_refuse {s = s} (lapse_next e l r) z =
     (then (writes Lapsed s e z refl (λ q. absurd (unlike q))) rest.0, rest.1)
 
 -- an event that cannot wait is decided: it is settled then, and refused only if it is rejectable
-decides_refuses : {s u : State} {e : ℕ} → Decides s e u → Sized s → e < 16 → Refuses s u × Sized u × (fate_of u e ≡ Held → ⊥)
+decides_refuses : {s : State} {e : ℕ} {u : State} → Decides s e u → Sized s → e < 16 → Refuses s u × Sized u × (fate_of u e ≡ Held → ⊥)
 decides_refuses {s} {e = e} (by_order o f) z lt =
     (does_all s o z, sized-do_all s o z, λ h. clash (member_settled s z o f.viable.runs e f.viable.contains) (ap is_settled h))
 decides_refuses {s} {e = e} (by_refusal n r) z lt =

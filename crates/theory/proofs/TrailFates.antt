@@ -33,7 +33,7 @@ trail_sized (moves {s} m p h r) z = trail_sized r (sized_minute s m z)
 
 -- a fate that neither the write nor the hold gives was there before
 same_fate_lem : (v : Fate) → same_fate v v ≡ true
-same_fate_lem v = elim v [ Open ↦ refl | Held ↦ refl | Done ↦ refl | Refused ↦ refl | Lapsed ↦ refl | Forced ↦ refl ]
+same_fate_lem v = elim v as (λ x. same_fate x x ≡ true) [ Open ↦ refl | Held ↦ refl | Done ↦ refl | Refused ↦ refl | Lapsed ↦ refl | Forced ↦ refl ]
 
 other_fate : (x y v : Fate) → same_fate x y ≡ false → v ≡ x → v ≡ y → ⊥
 other_fate x y v unlike p q = clash (ap (λ (w : Fate). same_fate w y) (sym p ∙ q) ∙ same_fate_lem y) unlike

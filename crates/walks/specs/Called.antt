@@ -2,7 +2,7 @@
 use Rattle.std.specs.Prelude.{◌≡◌, refl, Bool, true, false, not, List, [], ◌∷◌, T as Holds}
 use Rattle.std.proofs.Common.{sym, ap, subst}
 use seplogic.Ra.Ura.{Ura}
-use mir.Syntax.{Name, Place, Opd as Operand, Body, skip, seq, assign, block, loop, cond, switch, exit, return, call}
+use mir.Syntax.{Callee, Place, Opd as Operand, Body, skip, seq, assign, block, loop, cond, switch, exit, return, call, unreachable, call_v, lend_static}
 use mir.Val.{Val}
 use base.Logic.{SProp, ent, sep, emp, id⊢, via, ex_e, snd∗, emp∗, comm∗, mono∗, mono_l}
 use prog.Wp.{Env, Calls, Loops}
@@ -34,6 +34,9 @@ later (switch c a) = skip
 later (exit n) = skip
 later return = skip
 later (call f a d) = skip
+later unreachable = skip
+later (call_v f s a d) = skip
+later (lend_static p t c) = skip
 
 -- what a branch tells of its test
 pub is_true : (b : Bool) → Holds b → b ≡ true
@@ -109,7 +112,7 @@ module _ {M : Type 1} {𝓤 : Ura M} {𝓛 : Logic 𝓤} {K : Type 0} {Γ : List
       (sym (ap only (tells (u ∷ []) is)))
       (k (subst (λ (w : Val). Is (Row 𝓛 T c y) x (w ∷ [])) (ap only (tells (u ∷ []) is)) is)))))
 
-  module _ {E : Env 𝓤 H} {C : Calls 𝓤 H} {f : Name} {xs : List Operand} {Λ : Loops 𝓤 H} {q : Post 𝓤 H} {d : Place} where
+  module _ {E : Env 𝓤 H} {C : Calls 𝓤 H} {f : Callee} {xs : List Operand} {Λ : Loops 𝓤 H} {q : Post 𝓤 H} {d : Place} where
     -- a call: the callee's theorem, what it is passed (y), the result (x, v), and an item i of the context that gives
     -- what it asks
     pub calls_known : K → FmC 𝓤 H 𝓛.laws C → {rest : Body} (T : Ended) (c : Clauses 𝓤 T)
