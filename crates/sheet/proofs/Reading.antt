@@ -4,7 +4,7 @@ use mathlib.Core.Bool.{true, false}
 use mathlib.Core.List.{List}
 use mathlib.Core.Logic.{inl, inr}
 use mathlib.Core.Option.{Option, none, some}
-use mathlib.Core.Path.{◌≡◌, refl, sym, ◌∙◌, ap}
+use mathlib.Core.Path.{◌≡◌, refl, sym, ◌∙◌, ap, subst}
 use native.Mathlib.Omega.{arith}
 use borrow.Author.Tests.{eq-eqb}
 use lib.Dec.{eqb, ltb}
@@ -15,9 +15,9 @@ use Rattle.plan.specs.Sheets.{whole, faulty, read_from, read_plan, ending, sheet
 use Rattle.plan.proofs.Tests.{clash, either}
 use Rattle.plan.proofs.SheetReading.{read_enough, read_fault, read_end, read_next}
 use Rattle.scheduler.specs.Sheet.{read_sheet}
-use Rattle.sheet.specs.Types.{Plan, Record, SheetFault, Extra, Admitted, Faulty, Judged}
+use Rattle.sheet.specs.Types.{Plan, Record, Reader, SheetFault, Extra, Admitted, Faulty, Judged}
 use Rattle.sheet.specs.Internal.Progress.{end_verdict, judge, reading_of}
-use Rattle.sheet.specs.Internal.Place.{place_after}
+use Rattle.sheet.specs.Internal.Place.{place_after, moved_past}
 use Rattle.sheet.proofs.RecordLaws.{place_inside}
 use Rattle.plan.proofs.FaultlessRecords.{faultless}
 use Rattle.sheet.proofs.Rooms.{Room, room}
@@ -110,3 +110,43 @@ module _ (b : List ℕ) (at : ℕ) (p : Plan) where
     -- and the plan has a place for what it declares
     pub has_room_lem : Room p rec.kind
     has_room_lem = room (faultless p len at rec fine) (λ e. clash (eq-eqb rec.kind 5 e) not_last)
+
+-- a turn of the loop, at what its calls have answered: the record at the reader's place, how it is judged, the reader
+-- moved past it, and the plan with what it declares
+module _ (b : List ℕ) (rd : Reader) (p : Plan) (r : Record) (j : Judged) (held : rd.sheet.now ≡ b)
+    (reads : r ≡ record_at rd.sheet.now rd.at) (judges : j ≡ judge p (length b) rd.at r) where
+  read_here : r ≡ record_at b rd.at
+  read_here = reads ∙ ap (λ (s : List ℕ). record_at s rd.at) held
+
+  judged_here : j ≡ judge p (length b) rd.at (record_at b rd.at)
+  judged_here = judges ∙ ap (judge p (length b) rd.at) read_here
+
+  pub turn_stops : Left b rd.at p → j.stops ≡ true → reading_of j.verdict p ≡ read_sheet b
+  turn_stops l t =
+      ap (λ (x : Judged). reading_of x.verdict p) judged_here
+      ∙ stopped b rd.at p l (ap (λ (x : Judged). x.stops) (sym judged_here) ∙ t)
+
+  module _ (goes : j.stops ≡ false) where
+    goes_here : (judge p (length b) rd.at (record_at b rd.at)).stops ≡ false
+    goes_here = ap (λ (x : Judged). x.stops) (sym judged_here) ∙ goes
+
+    pub turn_room : Room p r.kind
+    turn_room = rw read_here (has_room_lem b rd.at p goes_here)
+
+    module _ (rd' : Reader) (moves : rd' ≡ moved_past rd r) where
+      placed_here : rd'.at ≡ place_after (length b) rd.at (record_at b rd.at)
+      placed_here =
+          ap (λ (x : Reader). x.at) moves
+          ∙ ap (λ (s : List ℕ). place_after (length s) rd.at r) held
+          ∙ ap (place_after (length b) rd.at) read_here
+
+      pub turn_less : length b - rd'.at < length b - rd.at
+      turn_less = rw placed_here (less b rd.at p goes_here)
+
+      pub turn_left : (p' : Plan) → p' ≡ declare p r → Left b rd.at p → (rd'.sheet.now ≡ b) × Left b rd'.at p'
+      turn_left p' q l =
+          let next = again b rd.at p goes_here l in
+          let here : p' ≡ declare p (record_at b rd.at) = q ∙ ap (declare p) read_here in (
+            ap (λ (x : Reader). x.sheet.now) moves ∙ held,
+            subst (λ (n : ℕ). Left b n p') (sym placed_here) (subst (λ (x : Plan). Left b (place_after (length b) rd.at (record_at b rd.at)) x) (sym here) next),
+          )

@@ -1,0 +1,23 @@
+-- `held_count` meets its contract.
+use Prim.Native.Nat.{◌-◌}
+use mathlib.Core.Path.{◌≡◌, sym, ◌∙◌, ap}
+use Rattle.plan.specs.Fates.{blank_standing, is_held, fates_of}
+use Rattle.plan.specs.declared.fate.Standing.{Standing}
+use Rattle.plan.proofs.Arrays.{read_in, read_past}
+use Rattle.plan.proofs.Loops.{count_start, count_next}
+use Rattle.readers.proofs.held_count.Goals as goal
+use Rattle.readers.proofs.held_count.Goals.{else-i-lt16, then-i-lt16}
+
+pub loop-i-init : goal.loop-i-init
+loop-i-init c = count_start _ _
+
+-- what the code is told of event c.loop-i.i
+told : (c : goal.Joined-i-lt16) → c.if-i-lt16.is ≡ is_held (fates_of c.args.state.standings c.loop-i.i)
+told c =
+    elim c.if-i-lt16.branch [
+      | then-i-lt16 w ↦ w.is-is ∙ w.is_held-is.ensures ∙ ap (λ (v : Standing). is_held v.fate) (sym (read_in 16 c.args.state.standings c.loop-i.i blank_standing w.if-i-lt16.true))
+      | else-i-lt16 w ↦ w.is-is ∙ ap (λ (v : Standing). is_held v.fate) (sym (read_past 16 c.args.state.standings c.loop-i.i blank_standing w.if-i-lt16.false))
+    ]
+
+pub loop-i-preserved : goal.loop-i-preserved
+loop-i-preserved c = count_next _ _ c.loop-i.count c.loop-i.i c.if-i-lt16.is c.loop-i.invariant c.loop-i-test.true (told c)
