@@ -72,8 +72,8 @@ archive=$(pkg-config --variable=libdir sinewhopa)/libsinewhopa.a
 cc -std=c11 "${strict[@]}" "${cflags[@]}" tests/installed.c "$archive" -o "$place/static"
 
 told="compiled with $version, linked $version
-$(cat examples/A/stdout examples/A/stdout examples/A/stdout)
-event 1: done; number 17: a record that is no call's, or a call that the state there turns down"
+$(cat examples/A/stdout examples/A/stdout)
+event 1: done; number 16: a minute below the current one"
 for program in shared shared_cpp; do
     same "$program needs the soname" "libsinewhopa.so.${version%.*}" "$(needed "$place/$program")"
     said=$(LD_LIBRARY_PATH=$lib "$place/$program") || said+=" (and fails)"

@@ -1,7 +1,7 @@
 /*
  * A host of the installed library: links every function that the header declares, and prints both versions and case A
- * of the examples, by single calls, by a list and by a journal. tests/install.sh compiles it as C and as C++, against
- * the shared library and against the archive.
+ * of the examples, by single calls and by a list. tests/install.sh compiles it as C and as C++, against the shared
+ * library and against the archive.
  */
 #include <sinewhopa.h>
 #include <stdbool.h>
@@ -34,12 +34,14 @@ static bool by_list(void)
     return show(report, sinewhopa_run(sheet, sizeof sheet, calls, sizeof calls, report, sizeof report));
 }
 
-/* Case A by a journal: one call is appended, the record of the other one is stored. False where one is not taken. */
-static bool by_journal(void)
+/*
+ * Case A by a journal, not shown: one call is appended, the record of the other one is stored. False where one is not
+ * taken, or where the journal opens to another state than the one by single calls.
+ */
+static bool by_journal(const sinewhopa_state *state)
 {
-    sinewhopa_state state;
+    sinewhopa_state opened;
     uint8_t journal[sizeof sheet + 2 + SINEWHOPA_RECORD_MOST];
-    uint8_t report[SINEWHOPA_REPORT_MOST];
     size_t length, at, leftover;
     memcpy(journal, sheet, sizeof sheet);
     if (sinewhopa_append(journal, sizeof journal, sizeof sheet, SINEWHOPA_HAND_IN, 0, &length, &at) !=
@@ -47,8 +49,8 @@ static bool by_journal(void)
         return false;
     }
     length += sinewhopa_record(SINEWHOPA_HAND_IN, 1, journal + length);
-    return sinewhopa_open_journal(&state, journal, length, &at, &leftover) == SINEWHOPA_TAKEN && at == length &&
-           leftover == 0 && show(report, sinewhopa_report(&state, 0, report, sizeof report));
+    return sinewhopa_open_journal(&opened, journal, length, &at, &leftover) == SINEWHOPA_TAKEN && at == length &&
+           leftover == 0 && memcmp(&opened, state, sizeof opened) == 0;
 }
 
 /* The functions that case A leaves out. False where one of them is not taken. */
@@ -71,8 +73,8 @@ int main(void)
     unsigned linked = sinewhopa_version();
     printf("compiled with %d.%d, linked %u.%u\n", SINEWHOPA_VERSION_MAJOR, SINEWHOPA_VERSION_MINOR, linked / 256,
            linked % 256);
-    bool told = by_calls(&state) && by_list() && by_journal() && the_rest(&state);
-    printf("event 1: %s; number 17: %s\n", sinewhopa_fate_name(state.fate[1]), sinewhopa_refusal_text(17));
+    bool told = by_calls(&state) && by_list() && by_journal(&state) && the_rest(&state);
+    printf("event 1: %s; number 16: %s\n", sinewhopa_fate_name(state.fate[1]), sinewhopa_refusal_text(16));
     bool same = linked == SINEWHOPA_VERSION && state.version == SINEWHOPA_VERSION_MAJOR;
     return told && same && fflush(stdout) == 0 && !ferror(stdout) ? 0 : 1;
 }

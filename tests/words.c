@@ -24,6 +24,6 @@ static int show(const char *what, const char *(*word)(uint8_t), int unknown)
 int main(void)
 {
     int same = show("fate", sinewhopa_fate_name, SINEWHOPA_FORCED + 1) &&
-               show("number", sinewhopa_refusal_text, SINEWHOPA_BAD_RECORD + 1);
+               show("number", sinewhopa_refusal_text, SINEWHOPA_BACKWARD + 1);
     return same && fflush(stdout) == 0 && !ferror(stdout) ? 0 : 1;
 }

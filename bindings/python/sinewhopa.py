@@ -56,7 +56,7 @@ STATE_LENGTH = 384
 LONGEST_REPORT = 320
 LONGEST_BATCH = 64
 LONGEST_SHEET = 273
-_VERSION = (1, 8)  # the version that this module was written for
+_VERSION = (1, 7)  # the version that this module was written for
 _SUBMIT, _CLOSE_STEP, _FINISH, _ADVANCE = 16, 17, 18, 19  # kinds of calls; an entry is of one of the first two
 _RECORD_ROOM = 8  # what is lent for the record of a call; the longest has 5 bytes
 _NO_ROOM, _BAD_RECORD = 14, 17
@@ -80,7 +80,7 @@ _SHEET_TEXTS = {
     15: "a window that is empty, or that its event may not have",
 }
 _CALL_TEXTS = {
-    2: "a kind of entry or call that there is not",
+    2: "a kind of entry that there is not",
     9: "no such event, or a step without events",
     10: "the step is closed already",
     11: "a step with events is not closed yet",

@@ -1,4 +1,4 @@
-"""The repository's examples: each folder as a list and call by call, those of examples/ here, and README.md."""
+"""The repository's examples: each folder as a whole list and call by call, the chapel of examples/, and README.md."""
 
 import contextlib
 import io
@@ -62,12 +62,17 @@ class Examples(unittest.TestCase):
             state = State.open(sheet)
             self.assertEqual(state.report(made(state, calls)), sinewhopa.run(sheet, calls))
 
-    def test_what_is_told_in_c_too(self):
-        for name in ("chapel", "journal"):
-            command = [sys.executable, "-B", str(PYTHON / f"examples/{name}.py")]
-            environment = {**os.environ, "PYTHONPATH": str(PYTHON)}
-            told = subprocess.run(command, env=environment, stdout=subprocess.PIPE, check=True).stdout
-            self.assertEqual(told, (ROOT / f"examples/{name}/stdout").read_bytes())
+    def test_the_chapel(self):
+        command = [sys.executable, "-B", str(PYTHON / "examples/chapel.py")]
+        environment = {**os.environ, "PYTHONPATH": str(PYTHON)}
+        told = subprocess.run(command, env=environment, stdout=subprocess.PIPE, check=True).stdout
+        self.assertEqual(told, (ROOT / "examples/chapel/stdout").read_bytes())
+
+    def test_the_journal(self):
+        command = [sys.executable, "-B", str(PYTHON / "examples/journal.py")]
+        environment = {**os.environ, "PYTHONPATH": str(PYTHON)}
+        told = subprocess.run(command, env=environment, stdout=subprocess.PIPE, check=True).stdout
+        self.assertEqual(told, (ROOT / "examples/journal/stdout").read_bytes())
 
     def test_the_readme(self):
         text = (PYTHON / "README.md").read_text().partition("\n## ")[0]

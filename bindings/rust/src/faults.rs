@@ -175,8 +175,8 @@ impl Error for SheetFault {}
 #[derive(Clone, Copy, Debug, PartialEq, Eq, Hash)]
 #[non_exhaustive]
 pub enum CallFault {
-    /// 2: an entry or a call of a kind that there is not; a [`Call`](crate::Call) or a
-    /// [`JournalCall`](crate::JournalCall) never is one.
+    /// 2: an entry of a kind that there is not; a [`Call`](crate::Call) never is one. Also a
+    /// call on a journal, of such a kind; a [`JournalCall`](crate::JournalCall) never is one.
     BadKind,
     /// 9: there is no such event, or the step to close has no event.
     Unknown,
@@ -240,7 +240,7 @@ impl CallFault {
 impl fmt::Display for CallFault {
     fn fmt(&self, out: &mut fmt::Formatter<'_>) -> fmt::Result {
         match self {
-            CallFault::BadKind => out.write_str("a kind of entry or call that there is not"),
+            CallFault::BadKind => out.write_str("a kind of entry that there is not"),
             CallFault::Unknown => out.write_str("no such event, or a step without events"),
             CallFault::AlreadyClosed => out.write_str("the step is closed already"),
             CallFault::NotClosed => out.write_str("a step with events is not closed yet"),

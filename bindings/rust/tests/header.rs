@@ -1,8 +1,8 @@
 //! The numbers and words here are those of the C header.
 
 use sinewhopa::raw::{self, Entry, CLOSE_STEP, HAND_IN};
-use sinewhopa::{Attributes, CallFault, Fate, Form, JournalFault, SheetFault, State, Window};
-use sinewhopa::{LONGEST_BATCH, LONGEST_REPORT, LONGEST_SHEET, STATE_LEN};
+use sinewhopa::{Attributes, CallFault, Fate, Form, SheetFault, State, Window, STATE_LEN};
+use sinewhopa::{JournalFault, LONGEST_BATCH, LONGEST_REPORT, LONGEST_SHEET};
 use std::collections::BTreeMap;
 use std::mem::{offset_of, size_of};
 
@@ -33,9 +33,6 @@ fn numbers_are_the_headers() {
         ("SHEET_MOST", LONGEST_SHEET),
         ("HAND_IN", HAND_IN.into()),
         ("CLOSE_STEP", CLOSE_STEP.into()),
-        ("FINISH", raw::FINISH.into()),
-        ("ADVANCE", raw::ADVANCE.into()),
-        ("RECORD_MOST", raw::RECORD_LEN),
         ("ADDED_DONE", raw::ADDED_DONE),
         ("ADDED_REFUSED", raw::ADDED_REFUSED),
         ("ADDED_LAPSED", raw::ADDED_LAPSED),
@@ -70,7 +67,6 @@ fn numbers_are_the_headers() {
         ("NO_ROOM", CallFault::NoRoom.number().into()),
         ("BAD_WINDOW", SheetFault::BadWindow { at }.number().into()),
         ("BACKWARD", CallFault::Backward.number().into()),
-        ("BAD_RECORD", bad_record(at).number().into()),
     ];
     for (name, number) in rows {
         assert_eq!(constants.get(name), Some(&number), "{name}");
@@ -81,6 +77,20 @@ fn numbers_are_the_headers() {
 fn bad_record(at: usize) -> JournalFault {
     let before = Box::new(State::open(&[5]).expect("a sheet"));
     JournalFault::BadRecord { at, before }
+}
+
+#[test]
+fn numbers_of_journals_are_the_headers() {
+    let constants = constants();
+    let rows = [
+        ("FINISH", raw::FINISH.into()),
+        ("ADVANCE", raw::ADVANCE.into()),
+        ("RECORD_MOST", raw::RECORD_LEN),
+        ("BAD_RECORD", bad_record(3).number().into()),
+    ];
+    for (name, number) in rows {
+        assert_eq!(constants.get(name), Some(&number), "{name}");
+    }
 }
 
 /// The words of C for a fate or a number, from 0 on. The last one is for those unknown to it.
@@ -105,7 +115,7 @@ fn fates_have_the_headers_words() {
     }
 }
 
-/// A record, an entry and a call share number 2: the header's words for it name them all.
+/// A record and an entry share number 2: the header's words for it name both.
 #[test]
 fn faults_have_the_headers_words() {
     for (number, word) in words("number") {
@@ -114,27 +124,37 @@ fn faults_have_the_headers_words() {
         let call = CallFault::from_number(number);
         let of_call = !matches!(call, CallFault::Other(_));
         assert_eq!(of_sheet && of_call, number == 2);
-        let journal = bad_record(9);
-        let of_journal = number == journal.number();
-        assert!(!of_journal || !(of_sheet || of_call));
         let known = number > 0 && word != "a number that this version does not know";
-        assert_eq!(of_sheet || of_call || of_journal, known);
-        if of_journal {
-            assert_eq!(
-                journal.to_string(),
-                format!("{word}, at offset 9 of the journal")
-            );
-        }
+        assert_eq!(of_sheet || of_call, known);
         if of_sheet {
-            let word = word.replace("record, entry or call", "record");
+            let word = word.replace("record or entry", "record");
             let said = format!("{word}, at offset 9 of the sheet");
             assert_eq!(sheet.to_string(), said);
         }
         if of_call {
-            let word = word.replace("record, entry or call", "entry or call");
-            assert_eq!(call.to_string(), word);
+            assert_eq!(call.to_string(), word.replace("record or entry", "entry"));
         }
     }
+}
+
+/// The header has no words of its own yet for a bad record: they are here alone.
+#[test]
+fn a_bad_record_has_words_of_its_own() {
+    let journal = bad_record(9);
+    let number = journal.number();
+    let sheet = SheetFault::from_number(number, 9);
+    assert!(matches!(sheet, SheetFault::Other { .. }));
+    assert!(matches!(
+        CallFault::from_number(number),
+        CallFault::Other(_)
+    ));
+    let unknown = (number, "a number that this version does not know");
+    assert!(words("number").contains(&unknown));
+    let said = "a record that is no call's, or a call that the state there turns down";
+    assert_eq!(
+        journal.to_string(),
+        format!("{said}, at offset 9 of the journal")
+    );
 }
 
 /// The fields of a struct of the header, which has so many bytes, each with its
@@ -199,10 +219,7 @@ fn readers_read_the_headers_fields() {
     assert_eq!(usize::from(counts[0]), constants()["VERSION_MAJOR"]);
     assert_eq!(state.line_count(), 2);
     let version = ["VERSION_MAJOR", "VERSION_MINOR"].map(|name| constants()[name]);
-    assert_eq!(
-        [sinewhopa::version().0, sinewhopa::version().1].map(usize::from),
-        version
-    );
+    assert_eq!([sinewhopa::version().0, sinewhopa::version().1].map(usize::from), version);
     let fates = [Fate::Done, Fate::Lapsed, Fate::Open, Fate::Held];
     for (event, fate) in (0..).zip(fates) {
         assert_eq!(state.fate(event), Some(fate));

@@ -5,9 +5,9 @@ use Rattle.std.specs.Prelude.{ℕ, ◌+◌, ◌*◌}
 abbrev pub major : ℕ
 major = 1
 
--- rises with every landing that adds a call, a kind or a number; 8: requests S-1 to S-8
+-- rises with every landing that adds a call, a kind or a number; 7: requests S-1 to S-7
 abbrev pub minor : ℕ
-minor = 8
+minor = 7
 
 -- both as one number
 abbrev pub version : ℕ

@@ -4,7 +4,7 @@ ghost use Rattle.sinewhopa.specs.Version.{version};
 
 const MAJOR: u16 = 1;
 
-const MINOR: u16 = 8;
+const MINOR: u16 = 7;
 
 // The version of the library that is linked: major * 256 + minor.
 #[unsafe(no_mangle)]
