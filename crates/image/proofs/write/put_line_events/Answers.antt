@@ -1,0 +1,14 @@
+-- `put_line_events` meets its contract.
+use Prim.Native.Nat.{◌-◌}
+use native.Mathlib.Omega.{arith}
+use mathlib.Core.Path.{refl}
+use Rattle.image.specs.Internal.Writes.{line_event_byte}
+use Rattle.image.specs.Layout.{line_event_at}
+use Rattle.image.proofs.RowLoops.{put_none, put_next}
+use Rattle.image.proofs.write.put_line_events.Goals as goal
+
+pub loop-i-init : goal.loop-i-init
+loop-i-init c = (omega arith, put_none _ _ _)
+
+pub loop-i-preserved : goal.loop-i-preserved
+loop-i-preserved c = (omega arith, put_next line_event_at (line_event_byte c.args.row) _ _ _ _ c.loop-i.invariant.1 refl)

@@ -1,0 +1,13 @@
+-- `put_line_fates` meets its contract.
+use Prim.Native.Nat.{◌-◌}
+use native.Mathlib.Omega.{arith}
+use Rattle.image.specs.Internal.Writes.{line_fate_byte}
+use Rattle.image.specs.Layout.{line_fate_at}
+use Rattle.image.proofs.RowLoops.{put_none, put_next}
+use Rattle.image.proofs.write.put_line_fates.Goals as goal
+
+pub loop-i-init : goal.loop-i-init
+loop-i-init c = (omega arith, put_none _ _ _)
+
+pub loop-i-preserved : goal.loop-i-preserved
+loop-i-preserved c = (omega arith, put_next line_fate_at (line_fate_byte c.args.row) _ _ _ _ c.loop-i.invariant.1 c.fate_number.ensures)

@@ -1,0 +1,12 @@
+-- `put_seconds` meets its contract.
+use Prim.Native.Nat.{◌-◌, ◌≤◌}
+use mathlib.Core.Path.{◌≡◌}
+use Rattle.image.specs.Internal.Writes.{put_to, b_byte}
+use Rattle.image.specs.Layout.{b_at}
+use Rattle.image.proofs.write.put_seconds.Given as goal
+
+abbrev pub invariant-loop-i : goal.invariant-loop-i
+invariant-loop-i l = (l.i ≤ 16) × (l.image ≡ put_to b_at (b_byte l.row) l.initial.image l.i)
+
+abbrev pub decreases-loop-i : goal.decreases-loop-i
+decreases-loop-i l = 16 - l.i

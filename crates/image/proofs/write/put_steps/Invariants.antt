@@ -1,0 +1,12 @@
+-- `put_steps` meets its contract.
+use Prim.Native.Nat.{◌-◌, ◌≤◌}
+use mathlib.Core.Path.{◌≡◌}
+use Rattle.image.specs.Internal.Writes.{put_to, step_byte}
+use Rattle.image.specs.Layout.{step_at}
+use Rattle.image.proofs.write.put_steps.Given as goal
+
+abbrev pub invariant-loop-i : goal.invariant-loop-i
+invariant-loop-i l = (l.i ≤ 16) × (l.image ≡ put_to step_at (step_byte l.row) l.initial.image l.i)
+
+abbrev pub decreases-loop-i : goal.decreases-loop-i
+decreases-loop-i l = 16 - l.i
