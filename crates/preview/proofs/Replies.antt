@@ -59,6 +59,15 @@ module _ (s : State) (e : ℕ) where
   preview_counted Made h t = rw (h, preview_of)
   preview_counted (TurnedDown f) h t = absurd (elim t [ inl z ↦ omega (arith, z) | inr z ↦ omega (arith, z) ])
 
+  -- the same where it is known that it is none
+  pub preview_taken : (a : Answer)
+      → (call s (Submit e)).answer ≡ a
+      → ((f : CallFault) → a ≡ TurnedDown f → ⊥)
+      → preview_of s e ≡ PreviewReply.Counted (counts_in (added_by s (Submit e)))
+  preview_taken (Is x) h t = preview_counted (Is x) h (inl refl)
+  preview_taken Made h t = preview_counted Made h (inr refl)
+  preview_taken (TurnedDown f) h t = absurd (t f refl)
+
   -- the counts that a preview gives
   pub counts_given : (c : Counts) → preview_of s e ≡ PreviewReply.Counted c → c ≡ counts_in (added_by s (Submit e))
   counts_given c h = go (call s (Submit e)).answer refl

@@ -1,0 +1,5 @@
+-- What falls in `put_decimal`: the number.
+use Rattle.report.proofs.page.+put_decimal.Given as goal
+
+abbrev pub decreases-put_decimal : goal.decreases-put_decimal
+decreases-put_decimal l = l.x
