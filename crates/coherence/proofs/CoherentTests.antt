@@ -9,7 +9,7 @@ use mathlib.Core.Path.{◌≡◌, refl, sym, ◌∙◌, ap}
 use lib.Dec.{eqb, ltb, leb}
 use lib.ListN.{get_or}
 use Rattle.coherence.specs.Prelude.{Fate, Event, Rule, Order, Need, Conditional, RuleLine, Plan, Standing, Entry}
-use Rattle.plan.specs.Base.{readAt, all_below}
+use Rattle.plan.specs.Base.{read_at, all_below}
 use Rattle.plan.specs.Fates.{Fates, is_open, is_held, is_done, is_gone, is_settled, blank_standing, fates_of}
 use Rattle.plan.specs.Plans.{blank_event, blank_rule, holds_bit, event_count, rule_count, event_at, step_of, rule_at, forcible, delayable}
 use Rattle.plan.specs.Rules.{bad_step, bad_attributes, named, enforceable, sound_event, sound_rule, unstoppable, reckoned, triggered, owes, sound_windows}
@@ -33,7 +33,7 @@ abbrev may_be_held : Plan → Fates → ℕ → Bool
 may_be_held p f e = not (is_held (f e) && not (delayable p e))
 
 abbrev may_be_open : Plan → Fates → List Bool → ℕ → Bool
-may_be_open p f closed e = not (is_open (f e) && readAt 8 closed (step_of p e) false)
+may_be_open p f closed e = not (is_open (f e) && read_at 8 closed (step_of p e) false)
 
 -- what the code asks of an event v with the fate x: that it is sound, and not wrong: settled and not listed (b), held
 -- and not delayable, or open in a closed step
@@ -55,7 +55,7 @@ module _ (v : Event) where
       step_low (not-true (ltb 7 v.step) (and_left (not (bad_step v.step)) (not (bad_attributes v.attributes)) h))
 
   regroup : (x : Fate) (b : Bool) (closed : List Bool)
-      → (sound_as v && not (wrong_as v x b closed)) ≡ (sound_as v && not (is_settled x && not b) && not (is_held x && not (holds_bit 4 v.attributes)) && not (is_open x && readAt 8 closed v.step false))
+      → (sound_as v && not (wrong_as v x b closed)) ≡ (sound_as v && not (is_settled x && not b) && not (is_held x && not (holds_bit 4 v.attributes)) && not (is_open x && read_at 8 closed v.step false))
   regroup x b closed = elim (either (ltb 7 v.step)) [
     | inl t ↦ rw t
     | inr t ↦ rw (t, lt-ltb v.step 8 (step_low t))
@@ -99,7 +99,7 @@ module _ (p : Plan) (standings : List Standing) (closed listed : List Bool) (h :
       (sym (read_in 16 standings e blank_standing lt))
       ∙ ap (λ b. sound_as (event_at p e) && not (wrong_as (event_at p e) (fates_of standings e) b closed))
       (sym (read_in 16 listed e false lt))
-      ∙ regroup (event_at p e) (fates_of standings e) (readAt 16 listed e false) closed
+      ∙ regroup (event_at p e) (fates_of standings e) (read_at 16 listed e false) closed
       ∙ ap (λ t. sound_as (event_at p e) && t && may_be_held p (fates_of standings) e && may_be_open p (fates_of standings) closed e)
       (sym (told e))
 
@@ -176,7 +176,7 @@ module _ (p : Plan) (f : Fates) (closed : List Bool) (h : List Entry) where
 
     -- so number 12 asks of a rule that it is sound, and recorded as broken, or holds and awaits nothing
     rule_test : (broken : List Bool) (i : ℕ)
-        → rule_coheres p f broken h i ≡ (sound_rule p i && (readAt 16 broken i false || (holds h (rule_at p i) && not (awaits p f h (rule_at p i)))))
+        → rule_coheres p f broken h i ≡ (sound_rule p i && (read_at 16 broken i false || (holds h (rule_at p i) && not (awaits p f h (rule_at p i)))))
     unfolding rule_coheres sound_rule
     rule_test broken i = elim (either (named (event_count p) (rule_at p i))) [
       | inl n ↦ rw (holds_paid (rule_at p i) n)
@@ -285,35 +285,35 @@ abbrev unstoppable_as : Event → Fate → Bool
 unstoppable_as v x = is_open x && not (holds_bit 2 v.attributes) && not (holds_bit 4 v.attributes)
 
 module _ (events : List Event) (standings : List Standing) (places : List ℕ) (rule : Rule) where
-  abbrev fateIn : ℕ → Fate
-  fateIn e = (get_or standings e blank_standing).fate
+  abbrev fate_inside : ℕ → Fate
+  fate_inside e = (get_or standings e blank_standing).fate
 
   abbrev event_in : ℕ → Event
   event_in e = get_or events e blank_event
 
-  abbrev doneAt : ℕ → Bool
-  doneAt e = ltb 0 (get_or places e 0)
+  abbrev done_at : ℕ → Bool
+  done_at e = ltb 0 (get_or places e 0)
 
   pub conditional_awaits : (a b c : ℕ)
       → ((n : ℕ) × (n ≤ 16) × (named n rule ≡ true))
       → rule ≡ Conditional a b c
       → (u v w z : Bool)
-      → u ≡ unstoppable_as (event_in b) (fateIn b)
-      → v ≡ unstoppable_as (event_in a) (fateIn a)
+      → u ≡ unstoppable_as (event_in b) (fate_inside b)
+      → v ≡ unstoppable_as (event_in a) (fate_inside a)
       → w ≡ holds_bit 1 (event_in c).attributes
-      → z ≡ is_settled (fateIn c)
+      → z ≡ is_settled (fate_inside c)
       → (p : Plan) (h : List Entry)
       → p.events ≡ events
       → Placed h (place_in places)
-      → ((((doneAt a && u) || (doneAt b && v)) && not w) && not z) ≡ awaits p (fates_of standings) h rule
+      → ((((done_at a && u) || (done_at b && v)) && not w) && not z) ≡ awaits p (fates_of standings) h rule
   unfolding awaits unstoppable
   conditional_awaits a b c names is u v w z hu hv hw hz p h same placed =
       let q = conditional_inside rule a b names c is in
-      let fate : (e : ℕ) → e < 16 → fateIn e ≡ fates_of standings e =
+      let fate : (e : ℕ) → e < 16 → fate_inside e ≡ fates_of standings e =
       λ e lt. ap (λ (s : Standing). s.fate) (sym (read_in 16 standings e blank_standing lt)) in
       let event : (e : ℕ) → e < 16 → event_in e ≡ event_at p e =
       λ e lt. ap (λ (l : List Event). get_or l e blank_event) (sym same) ∙ sym (read_in 16 p.events e blank_event lt) in
-      let done : (e : ℕ) → e < 16 → doneAt e ≡ done_in h e =
+      let done : (e : ℕ) → e < 16 → done_at e ≡ done_in h e =
       λ e lt. sym (placed.done e ∙ ap (ltb 0) (read_in 16 places e 0 lt)) in
       rw (is, hu, hv, hw, hz, done a q.0, done b q.1, fate a q.0, fate b q.1, fate c q.2, event a q.0, event b q.1, event c q.2)
 

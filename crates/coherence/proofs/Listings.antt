@@ -11,7 +11,7 @@ use lib.Dec.{eqb, ltb, leb}
 use lib.ListN.{length, take, drop, get_or, set, replicate, length-set, length-replicate}
 use lib.Seq.{get_or-set_same, get_or-set_other}
 use Rattle.coherence.specs.Prelude.{Fate, Open, Standing, Entry}
-use Rattle.plan.specs.Base.{readAt}
+use Rattle.plan.specs.Base.{read_at}
 use Rattle.plan.specs.Fates.{Fates, is_done, is_settled, same_fate, fate_number, blank_standing, fates_of}
 use Rattle.plan.specs.Histories.{blank_entry, fate_if, fates_in, any_done, done_in, done_in_turn, declared_only, same_fates, listed_as}
 use Rattle.coherence.specs.Listings.{Placed, place_in, Told, Listed}
@@ -24,10 +24,10 @@ use Rattle.coherence.proofs.Lines.{lines_next, lines_cut, lines_all, undeclared_
 
 -- after a store that the code makes within the array
 module _ {A : Type 0} (n : ℕ) (l : List A) (i : ℕ) (a d : A) where
-  set_same : i < length l → i < n → readAt n (set l i a) i d ≡ a
+  set_same : i < length l → i < n → read_at n (set l i a) i d ≡ a
   set_same h lt = read_in n (set l i a) i d lt ∙ get_or-set_same l i a d h
 
-  set_other : (j : ℕ) → j ≢ i → readAt n (set l i a) j d ≡ readAt n l j d
+  set_other : (j : ℕ) → j ≢ i → read_at n (set l i a) j d ≡ read_at n l j d
   set_other j ne = ap (λ x. cond (ltb j n) x d) (get_or-set_other l i j a d ne)
 
 -- the places after one line more: the same, where it is not of an event that is done
@@ -180,7 +180,7 @@ in_place n e h = (leb-false 16 e (or_left (leb 16 e) (leb n e) h), leb-false n e
 pub record Turn (history : List Entry) (len count : ℕ) (standings : List Standing) (listed : List Bool) (places : List ℕ) (i : ℕ) : Type 0 where
   pub listed_len : length listed ≡ 16
   pub places_len : length places ≡ 16
-  pub passed : Passed (take i (take len history)) i count (fates_of standings) (λ e. readAt 16 listed e false) (place_in places)
+  pub passed : Passed (take i (take len history)) i count (fates_of standings) (λ e. read_at 16 listed e false) (place_in places)
 
 module _ (history : List Entry) (len count : ℕ) (standings : List Standing) where
   pub turn_start : Turn history len count standings (replicate 16 false) (replicate 16 0) 0
@@ -196,7 +196,7 @@ module _ (history : List Entry) (len count : ℕ) (standings : List Standing) wh
         → Listed (take len history) count (fates_of standings) (record { ok = true; listed = listed; places = places })
     turn_all ge = record { passes = λ is. told (rw (lines_all history len i whole ge) at t.passed); fails = λ is. absurd (clash refl is) }
       where
-        told : Passed (take len history) i count (fates_of standings) (λ e. readAt 16 listed e false) (place_in places)
+        told : Passed (take len history) i count (fates_of standings) (λ e. read_at 16 listed e false) (place_in places)
             → Told (take len history) count (fates_of standings) (record { ok = true; listed = listed; places = places })
         told p = record {
           declared = p.declared;
@@ -228,13 +228,13 @@ module _ (history : List Entry) (len count : ℕ) (standings : List Standing) wh
 
       wrong_listed : (x : Fate) (b : Bool)
           → fates_of standings l.event ≡ x
-          → readAt 16 listed l.event false ≡ b
+          → read_at 16 listed l.event false ≡ b
           → (b || not (is_settled x && same_fate l.fate x)) ≡ true
           → listed_as (take len history) l.event (fates_of standings l.event) ≡ false
       wrong_listed x b fate has w =
           ap (λ ls. listed_as ls l.event (fates_of standings l.event)) cut
           ∙ wrong_line (take i (take len history)) (drop (i + 1) (take len history)) l (fates_of standings l.event)
-          (readAt 16 listed l.event false) (t.passed.fates l.event) (rw (fate, has) w)
+          (read_at 16 listed l.event false) (t.passed.fates l.event) (rw (fate, has) w)
 
       pub turn_undeclared : (leb 16 l.event || leb count l.event) ≡ true
           → Listed (take len history) count (fates_of standings) (record { ok = false; listed = listed; places = places })
@@ -262,7 +262,7 @@ module _ (history : List Entry) (len count : ℕ) (standings : List Standing) wh
         fate_is : fates_of standings l.event ≡ x
         fate_is = ap (λ (v : Standing). v.fate) (read_in 16 standings l.event blank_standing inside) ∙ fate
 
-        has_is : readAt 16 listed l.event false ≡ get_or listed l.event false
+        has_is : read_at 16 listed l.event false ≡ get_or listed l.event false
         has_is = read_in 16 listed l.event false inside
 
         pub turn_wrong : (get_or listed l.event false || not (is_settled x && same_fate l.fate x)) ≡ true
@@ -279,12 +279,12 @@ module _ (history : List Entry) (len count : ℕ) (standings : List Standing) wh
           same : l.fate ≡ fates_of standings l.event
           same = fate_same l.fate x (and_right (is_settled x) (same_fate l.fate x) right) ∙ sym fate_is
 
-          free : readAt 16 listed l.event false ≡ false
+          free : read_at 16 listed l.event false ≡ false
           free = has_is ∙ or_left (get_or listed l.event false) (not (is_settled x && same_fate l.fate x)) w
 
           listed_next : (next : List ℕ)
               → length next ≡ 16
-              → Passed (take i (take len history) ++ (l ∷ [])) (i + 1) count (fates_of standings) (λ e. readAt 16 (set listed l.event true) e false) (place_in next)
+              → Passed (take i (take len history) ++ (l ∷ [])) (i + 1) count (fates_of standings) (λ e. read_at 16 (set listed l.event true) e false) (place_in next)
               → Turn history len count standings (set listed l.event true) next (i + 1)
           listed_next next size passed = record {
             listed_len = length-set listed l.event true ∙ t.listed_len;

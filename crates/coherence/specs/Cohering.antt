@@ -1,7 +1,7 @@
 -- Number 12 of the parts of a state: a plan, the fates of its events, which rules are recorded as broken and which steps
 -- are closed, and a history with its length.
 use Rattle.coherence.specs.Prelude.{ℕ, Bool, false, not, ◌&&◌, ◌||◌, List, eqb, ltb, leb, Rule, Order, Need, Conditional, Window, Plan, Entry}
-use Rattle.plan.specs.Base.{all_below, readAt}
+use Rattle.plan.specs.Base.{all_below, read_at}
 use Rattle.plan.specs.Fates.{Fates, is_open, is_held, is_settled}
 use Rattle.plan.specs.Plans.{event_count, rule_count, step_of, rule_at, holds_bit, forcible, delayable}
 use Rattle.plan.specs.Rules.{sound_event, sound_rule, sound_windows, unstoppable, owes}
@@ -14,7 +14,7 @@ event_coheres p f closed h e =
     sound_event p e
     && listed_as h e (f e)
     && not (is_held (f e) && not (delayable p e))
-    && not (is_open (f e) && readAt 8 closed (step_of p e) false)
+    && not (is_open (f e) && read_at 8 closed (step_of p e) false)
 
 abbrev pub events_cohere : Plan → Fates → List Bool → List Entry → Bool
 events_cohere p f closed h = all_below (event_count p) (event_coheres p f closed h)
@@ -23,7 +23,7 @@ events_cohere p f closed h = all_below (event_count p) (event_coheres p f closed
 unfoldable pub rule_coheres : Plan → Fates → List Bool → List Entry → ℕ → Bool
 rule_coheres p f broken h i =
     sound_rule p i
-    && (readAt 16 broken i false
+    && (read_at 16 broken i false
     || (not (owes p f (rule_at p i)) && holds h (rule_at p i)))
 
 abbrev pub rules_cohere : Plan → Fates → List Bool → List Entry → Bool

@@ -1,6 +1,6 @@
 -- What one pass over the lines of a history tells of its events.
 use Rattle.coherence.specs.Prelude.{ℕ, Bool, true, false, not, ◌&&◌, List, ◌≡◌, ltb, Entry, Listing}
-use Rattle.plan.specs.Base.{all_below, readAt}
+use Rattle.plan.specs.Base.{all_below, read_at}
 use Rattle.plan.specs.Fates.{Fates, is_settled}
 use Rattle.plan.specs.Histories.{done_in, done_in_turn, declared_only, listed_as}
 
@@ -12,11 +12,11 @@ pub record Placed (h : List Entry) (place : ℕ → ℕ) : Type 0 where
 
 -- the place that an array gives e
 abbrev pub place_in : List ℕ → ℕ → ℕ
-place_in places e = readAt 16 places e 0
+place_in places e = read_at 16 places e 0
 
 -- the history lists the events as their fates f ask for, but for the settled ones that are not marked as listed (10.4)
 abbrev pub Marked : List Entry → Fates → List Bool → Type 0
-Marked h f listed = (e : ℕ) → listed_as h e (f e) ≡ not (is_settled (f e) && not (readAt 16 listed e false))
+Marked h f listed = (e : ℕ) → listed_as h e (f e) ≡ not (is_settled (f e) && not (read_at 16 listed e false))
 
 -- every line names one of n declared events, the events are marked, and what is done has its place (10.4)
 pub record Told (h : List Entry) (n : ℕ) (f : Fates) (l : Listing) : Type 0 where

@@ -76,8 +76,8 @@ module _ (s : State) (h : fits s ≡ true) where
   minute_fits = and_right (is_byte (event_count s.plan) && is_byte (rule_count s.plan) && is_byte (line_count s) && all_below 16 (place_fits s)) (is_word s.minute) h
 
   -- the tests of a place before those of its window
-  abbrev oldFits : ℕ → Bool
-  oldFits i =
+  abbrev old_fits : ℕ → Bool
+  old_fits i =
       is_byte (step_of s.plan i)
       && is_byte (attributes_of s.plan i)
       && is_byte (rule_a (rule_at s.plan i))
@@ -85,9 +85,9 @@ module _ (s : State) (h : fits s ≡ true) where
       && is_byte (rule_c (rule_at s.plan i))
       && is_byte (place_of s i).event
 
-  parts : (i : ℕ) → i < 16 → (oldFits i ≡ true) × (is_word (window_at s.plan i).from ≡ true) × (is_word (window_at s.plan i).until ≡ true)
+  parts : (i : ℕ) → i < 16 → (old_fits i ≡ true) × (is_word (window_at s.plan i).from ≡ true) × (is_word (window_at s.plan i).until ≡ true)
   unfolding place_fits
-  parts i lt = and_three (oldFits i) (is_word (window_at s.plan i).from) (is_word (window_at s.plan i).until) (all_at 16 (place_fits s) counts.3 i lt)
+  parts i lt = and_three (old_fits i) (is_word (window_at s.plan i).from) (is_word (window_at s.plan i).until) (all_at 16 (place_fits s) counts.3 i lt)
 
   places : (i : ℕ) → i < 16
       → (is_byte (step_of s.plan i) ≡ true)

@@ -6,7 +6,7 @@ use mathlib.Core.List.{List}
 use mathlib.Core.Path.{◌≡◌, refl, sym, ◌∙◌, ap, subst}
 use lib.ListN.{length, get_or, replicate, length-replicate, get_or-replicate}
 use Rattle.image.specs.Types.{Event, RuleLine, Window, Standing, Entry, Plan, State}
-use Rattle.plan.specs.Base.{one_if, tabulate, readAt}
+use Rattle.plan.specs.Base.{one_if, tabulate, read_at}
 use Rattle.plan.specs.Fates.{fate_number, blank_standing}
 use Rattle.plan.specs.Plans.{event_count, rule_count, step_of, attributes_of, rule_at, window_at, blank_event, blank_rule, blank_window}
 use Rattle.plan.specs.Histories.{blank_entry}
@@ -79,10 +79,10 @@ module _ (p : Plan) (b : List ℕ) (z : length b ≡ 384) where
   row : (j i : ℕ) → j < 11 → i < (row_of (plan_rows p) j).len → byte_at (written (plan_rows p) b) ((row_of (plan_rows p) j).at + i) ≡ (row_of (plan_rows p) j).byte i
   row j i lt w = written_row (plan_rows p) j b 384 i z refl lt w
 
-  event : (i : ℕ) → i < 16 → get_or p.events i blank_event ≡ readAt 16 p.events i blank_event
+  event : (i : ℕ) → i < 16 → get_or p.events i blank_event ≡ read_at 16 p.events i blank_event
   event i lt = sym (read_get 16 i blank_event lt p.events)
 
-  rule : (i : ℕ) → i < 16 → get_or p.rules i blank_rule ≡ readAt 16 p.rules i blank_rule
+  rule : (i : ℕ) → i < 16 → get_or p.rules i blank_rule ≡ read_at 16 p.rules i blank_rule
   rule i lt = sym (read_get 16 i blank_rule lt p.rules)
 
   window : (i : ℕ) → i < 64 → get_or p.windows (i / 4) blank_window ≡ window_at p (i / 4)

@@ -10,7 +10,7 @@ use mathlib.Core.Path.{◌≡◌, refl, sym, ◌∙◌, ap, subst}
 use lib.Dec.{eqb, ltb}
 use lib.ListN.{length}
 use Rattle.image.specs.Types.{Fate, Event, Rule, RuleLine, Window, Standing, Entry, State}
-use Rattle.plan.specs.Base.{one_if, all_below, tabulate, readAt}
+use Rattle.plan.specs.Base.{one_if, all_below, tabulate, read_at}
 use Rattle.plan.specs.Fates.{fate_number, blank_standing}
 use Rattle.plan.specs.Plans.{event_at, rule_at, window_at, blank_event, blank_rule, blank_window}
 use Rattle.plan.specs.Records.{rule_of}
@@ -37,7 +37,7 @@ and_six a b c d e f h =
 -- an array is the one made from what is read of it
 array_said : {A : Type 0} (n : ℕ) (l : List A) (g : ℕ → A) (d : A)
     → length l ≡ n
-    → ((k : ℕ) → k < n → g k ≡ readAt n l k d)
+    → ((k : ℕ) → k < n → g k ≡ read_at n l k d)
     → tabulate n 0 g ≡ l
 array_said n l g d e h = sym (array_tabulate n l g d e (λ k lt. sym (h k lt)))
 
@@ -104,10 +104,10 @@ module _ (s : State) (b : List ℕ) (h : Shows s b) (w : Whole s) where
   record_said : (k : ℕ) → k < 16 → record_in b k ≡ record_of (rule_at s.plan k)
   record_said k lt i = record { kind = h.plan.kind k lt i; x = h.plan.first k lt i; y = h.plan.second k lt i; z = h.plan.third k lt i; from = 0; until = 0 }
 
-  rule_said : (k : ℕ) → k < 16 → rule_in b k ≡ readAt 16 s.plan.rules k blank_rule
+  rule_said : (k : ℕ) → k < 16 → rule_in b k ≡ read_at 16 s.plan.rules k blank_rule
   rule_said k lt = ap {B = RuleLine} (λ (x : Rule). record { rule = x }) (ap rule_of (record_said k lt) ∙ rule_back (rule_at s.plan k))
 
-  standing_said : (k : ℕ) → k < 16 → standing_in b k ≡ readAt 16 s.standings k blank_standing
+  standing_said : (k : ℕ) → k < 16 → standing_in b k ≡ read_at 16 s.standings k blank_standing
   standing_said k lt = ap {B = Standing} (λ (x : Fate). record { fate = x }) (ap fate_from (h.calls.fate k lt) ∙ fate_back (fate_of s k))
 
   entry_said : (k : ℕ) → k < 16 → entry_in b k ≡ place_of s k

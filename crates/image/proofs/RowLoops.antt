@@ -19,42 +19,42 @@ use Rattle.image.proofs.Words.{row_byte_lem}
 
 module _ {A : Type 0} where
   -- the list with g 0, g 1, .. in its first n places
-  unfoldable pub fillTo : (ℕ → A) → List A → ℕ → List A
-  fillTo g l zero = l
-  fillTo g l (suc n) = set (fillTo g l n) n (g n)
+  unfoldable pub fill_to : (ℕ → A) → List A → ℕ → List A
+  fill_to g l zero = l
+  fill_to g l (suc n) = set (fill_to g l n) n (g n)
 
-  length_fill : (g : ℕ → A) (l : List A) (n : ℕ) → length (fillTo g l n) ≡ length l
-  unfolding fillTo
+  length_fill : (g : ℕ → A) (l : List A) (n : ℕ) → length (fill_to g l n) ≡ length l
+  unfolding fill_to
   length_fill g l zero = refl
-  length_fill g l (suc n) = length-set (fillTo g l n) n (g n) ∙ length_fill g l n
+  length_fill g l (suc n) = length-set (fill_to g l n) n (g n) ∙ length_fill g l n
 
-  fill_get : (g : ℕ → A) (l : List A) (n i : ℕ) (d : A) → n ≤ length l → i < n → get_or (fillTo g l n) i d ≡ g i
-  unfolding fillTo
+  fill_get : (g : ℕ → A) (l : List A) (n i : ℕ) (d : A) → n ≤ length l → i < n → get_or (fill_to g l n) i d ≡ g i
+  unfolding fill_to
   fill_get g l zero i d w h = absurd (omega arith)
   fill_get g l (suc n) i d w h = elim (ℕ_discrete i n) [
-    | yes e ↦ rw e (get_or-set_same (fillTo g l n) n (g n) d (omega (arith, length_fill g l n)))
-    | no f ↦ get_or-set_other (fillTo g l n) n i (g n) d f ∙ fill_get g l n i d (omega arith) (omega (arith, f))
+    | yes e ↦ rw e (get_or-set_same (fill_to g l n) n (g n) d (omega (arith, length_fill g l n)))
+    | no f ↦ get_or-set_other (fill_to g l n) n i (g n) d f ∙ fill_get g l n i d (omega arith) (omega (arith, f))
   ]
 
   -- a row that is filled
-  pub fill_none : (g : ℕ → A) (l : List A) → l ≡ fillTo g l 0
-  unfolding fillTo
+  pub fill_none : (g : ℕ → A) (l : List A) → l ≡ fill_to g l 0
+  unfolding fill_to
   fill_none g l = refl
 
-  pub fill_next : (g : ℕ → A) (l m : List A) (n : ℕ) (a : A) → m ≡ fillTo g l n → a ≡ g n → set m n a ≡ fillTo g l (n + 1)
-  unfolding fillTo
+  pub fill_next : (g : ℕ → A) (l m : List A) (n : ℕ) (a : A) → m ≡ fill_to g l n → a ≡ g n → set m n a ≡ fill_to g l (n + 1)
+  unfolding fill_to
   fill_next g l m n a h e =
-      rw add-one (ap (λ (x : List A). set x n a) h ∙ ap (λ (x : A). set (fillTo g l n) n x) e)
+      rw add-one (ap (λ (x : List A). set x n a) h ∙ ap (λ (x : A). set (fill_to g l n) n x) e)
 
   pub fill_all : (k : ℕ) (d : A) (g : ℕ → A) (m : List A) (n : ℕ)
       → n ≤ k
       → k ≤ n
-      → m ≡ fillTo g (replicate k d) n
+      → m ≡ fill_to g (replicate k d) n
       → m ≡ tabulate k 0 g
   fill_all k d g m n le ge h =
       h
-      ∙ ap (fillTo g (replicate k d)) (le_antisymm le ge)
-      ∙ as_tabulate k (fillTo g (replicate k d) k) g d (length_fill g (replicate k d) k ∙ length-replicate k d)
+      ∙ ap (fill_to g (replicate k d)) (le_antisymm le ge)
+      ∙ as_tabulate k (fill_to g (replicate k d) k) g d (length_fill g (replicate k d) k ∙ length-replicate k d)
       (λ i lt. fill_get g (replicate k d) k i d (omega (arith, length-replicate k d)) lt)
 
 -- bytes that are written from an offset on

@@ -11,7 +11,7 @@ use mathlib.Core.Path.{◌≡◌, refl, sym, ◌∙◌, ap}
 use lib.Dec.{leb}
 use lib.ListN.{length, get_or, take, drop, replicate, length-set, length-replicate, length-drop, get_or-replicate, take-append-drop}
 use lib.Seq.{get_or-set_same, get_or-set_other, ext_get_or, get_or-take, get_or-drop, drop-drop, length-take-le}
-use Rattle.plan.specs.Base.{tabulate, readAt}
+use Rattle.plan.specs.Base.{tabulate, read_at}
 use Rattle.plan.proofs.Tests.{and_left, and_right, or_either}
 use Rattle.theory.proofs.Observation.{get_d_tabulate, as_tabulate}
 use Rattle.image.specs.Layout.{byte_at}
@@ -19,10 +19,10 @@ use Rattle.image.specs.Internal.Writes.{Row, put_to, written, one}
 
 -- arrays read below their length
 module _ {A : Type 0} (n : ℕ) (i : ℕ) (d : A) (lt : i < n) where
-  pub read_get : (l : List A) → readAt n l i d ≡ get_or l i d
+  pub read_get : (l : List A) → read_at n l i d ≡ get_or l i d
   read_get l = rw (lt-ltb i n lt)
 
-  pub read_tabulate : (g : ℕ → A) → readAt n (tabulate n 0 g) i d ≡ g i
+  pub read_tabulate : (g : ℕ → A) → read_at n (tabulate n 0 g) i d ≡ g i
   read_tabulate g = read_get (tabulate n 0 g) ∙ get_d_tabulate n 0 g i d lt ∙ ap g (zero-add i)
 
 -- one row written: the length stays, and so does every byte outside the row

@@ -2,7 +2,7 @@
 -- are an image. The layout is fixed for ever: a host may keep the bytes from one version of the library to the next.
 use Rattle.std.specs.Prelude.{ℕ, ◌+◌, ◌*◌, ◌/◌, ◌%◌, Bool, ◌&&◌, ◌||◌, List, [], ◌∷◌, ◌++◌, ◌≡◌, eqb, ltb, length, get_or, replicate}
 use Rattle.image.specs.Types.{Fate, Open, Held, Done, Refused, Lapsed, Forced, Standing, Event, Rule, Order, Need, Conditional, RuleLine, Window, Plan, Entry, Record, State}
-use Rattle.plan.specs.Base.{one_if, all_below, tabulate, readAt}
+use Rattle.plan.specs.Base.{one_if, all_below, tabulate, read_at}
 use Rattle.plan.specs.Fates.{fate_number}
 use Rattle.plan.specs.Plans.{event_count, rule_count, step_of, attributes_of, rule_at, window_at}
 use Rattle.plan.specs.Histories.{blank_entry}
@@ -72,7 +72,7 @@ rule_c r = elim r [ Order a b ↦ 0 | Need a b ↦ 0 | Conditional a b c ↦ c ]
 
 -- place i of the history, also beyond its last line
 abbrev pub place_of : State → ℕ → Entry
-place_of s i = readAt 16 s.history i blank_entry
+place_of s i = read_at 16 s.history i blank_entry
 
 -- byte k of a number of four bytes, the lowest first (3.5)
 abbrev pub word_byte : ℕ → ℕ → ℕ

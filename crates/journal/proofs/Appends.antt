@@ -13,8 +13,8 @@ use lib.Seq.{drop_at, take_at, length-take-le, take-take, take-append-add}
 use Rattle.plan.specs.Sheets.{whole, read_plan}
 use Rattle.journal.specs.Types.{Plan, SheetFault}
 use Rattle.journal.specs.Records.{Keeping, stopped, further, size, front, run, records, made, Recorded, Accepted, AllRecorded}
-use Rattle.journal.specs.Journals.{Opening, Opens, Broken, Unread, opened_at, Appending, Appended, TooLong, BadSheet, BadRecord, TurnedDown, NoRoom, overwritten, journalOf, openJournal, room_for, appendTo, append, written_by, buffer_after}
-use Rattle.journal.specs.Claims.{is_appended, opensAfter, ExactlyWhole, AppendsCall, Kept, fresh, appended, lost, cut_back}
+use Rattle.journal.specs.Journals.{Opening, Opens, Broken, Unread, opened_at, Appending, Appended, TooLong, BadSheet, BadRecord, TurnedDown, NoRoom, overwritten, journal_of, open_journal, room_for, append_to, append, written_by, buffer_after}
+use Rattle.journal.specs.Claims.{is_appended, opens_after, ExactlyWhole, AppendsCall, Kept, fresh, appended, lost, cut_back}
 use Rattle.journal.proofs.Fronts.{Lawful, front_cut}
 use Rattle.journal.proofs.Runs.{run_short, run_record}
 use Rattle.journal.proofs.Openings.{opened_good, opens_state, opens_end, end_inside, open_goes_on}
@@ -48,33 +48,33 @@ module _ {S C F : Type 0} (k : Keeping S C F) where
 
   pub append_inside : (buffer : List ℕ) (len : ℕ) (c : C)
       → ltb (length buffer) len ≡ false
-      → append k buffer len c ≡ appendTo k (length buffer) c (openJournal k (take len buffer))
+      → append k buffer len c ≡ append_to k (length buffer) c (open_journal k (take len buffer))
   unfolding append
   append_inside buffer len c h = rw (h, append)
 
   module _ (room : ℕ) (c : C) where
-    pub to_unread : (f : SheetFault) (at : ℕ) → appendTo k room c (Unread f at) ≡ BadSheet f at
-    unfolding appendTo
+    pub to_unread : (f : SheetFault) (at : ℕ) → append_to k room c (Unread f at) ≡ BadSheet f at
+    unfolding append_to
     to_unread f at = refl
 
-    pub to_broken : (s : S) (at : ℕ) → appendTo k room c (Broken s at) ≡ BadRecord at
-    unfolding appendTo
+    pub to_broken : (s : S) (at : ℕ) → append_to k room c (Broken s at) ≡ BadRecord at
+    unfolding append_to
     to_broken s at = refl
 
     module _ (s : S) (end left : ℕ) where
-      pub to_refused : (f : F) → k.fault s c ≡ some f → appendTo k room c (Opens s end left) ≡ TurnedDown f end
-      unfolding appendTo
-      to_refused f h = rw (h, appendTo)
+      pub to_refused : (f : F) → k.fault s c ≡ some f → append_to k room c (Opens s end left) ≡ TurnedDown f end
+      unfolding append_to
+      to_refused f h = rw (h, append_to)
 
-      pub to_full : k.fault s c ≡ none → ltb room (end + size k c) ≡ true → appendTo k room c (Opens s end left) ≡ NoRoom end
-      unfolding appendTo room_for
-      to_full h e = rw (h, appendTo, e, room_for)
+      pub to_full : k.fault s c ≡ none → ltb room (end + size k c) ≡ true → append_to k room c (Opens s end left) ≡ NoRoom end
+      unfolding append_to room_for
+      to_full h e = rw (h, append_to, e, room_for)
 
       pub to_appended : k.fault s c ≡ none
           → ltb room (end + size k c) ≡ false
-          → appendTo k room c (Opens s end left) ≡ Appended end (end + size k c)
-      unfolding appendTo room_for
-      to_appended h e = rw (h, appendTo, e, room_for)
+          → append_to k room c (Opens s end left) ≡ Appended end (end + size k c)
+      unfolding append_to room_for
+      to_appended h e = rw (h, append_to, e, room_for)
 
   -- the buffer after it
   after_appended : (buffer : List ℕ) (len : ℕ) (c : C) (end n : ℕ)
@@ -102,7 +102,7 @@ module _ {S C F : Type 0} (k : Keeping S C F) where
   record Tested (buffer : List ℕ) (len : ℕ) (c : C) (end n : ℕ) : Type 0 where
     state : S
     left : ℕ
-    opens : openJournal k (take len buffer) ≡ Opens state end left
+    opens : open_journal k (take len buffer) ≡ Opens state end left
     accepted : k.fault state c ≡ none
     length_is : n ≡ end + size k c
     stated : len ≤ length buffer
@@ -125,12 +125,12 @@ module _ {S C F : Type 0} (k : Keeping S C F) where
 
       stating : (t : Bool) → ltb (length buffer) len ≡ t → Tested buffer len c at n
       stating true t = wrong TooLong (append_long buffer len c t) refl
-      stating false t = opening (openJournal k (take len buffer)) refl
+      stating false t = opening (open_journal k (take len buffer)) refl
         where
-          tells : (o : Opening S) → openJournal k (take len buffer) ≡ o → append k buffer len c ≡ appendTo k room c o
-          tells o e = append_inside buffer len c t ∙ ap (appendTo k room c) e
+          tells : (o : Opening S) → open_journal k (take len buffer) ≡ o → append k buffer len c ≡ append_to k room c o
+          tells o e = append_inside buffer len c t ∙ ap (append_to k room c) e
 
-          opening : (o : Opening S) → openJournal k (take len buffer) ≡ o → Tested buffer len c at n
+          opening : (o : Opening S) → open_journal k (take len buffer) ≡ o → Tested buffer len c at n
           opening (Unread f o) e = wrong (BadSheet f o) (tells (Unread f o) e ∙ to_unread room c f o) refl
           opening (Broken s o) e = wrong (BadRecord o) (tells (Broken s o) e ∙ to_broken room c s o) refl
           opening (Opens s end left) e = judging (k.fault s c) refl
@@ -157,10 +157,10 @@ module _ {S C F : Type 0} (k : Keeping S C F) where
   module _ (w : Lawful k) where
     -- a record behind the last whole one
     pub open_next : (b : List ℕ) (s : S) (end left : ℕ) (c : C)
-        → openJournal k b ≡ Opens s end left
+        → open_journal k b ≡ Opens s end left
         → k.fault s c ≡ none
         → Recorded k c
-        → openJournal k (take end b ++ k.bytes c) ≡ Opens (k.make s c) (end + size k c) 0
+        → open_journal k (take end b ++ k.bytes c) ≡ Opens (k.make s c) (end + size k c) 0
     unfolding front
     open_next b s end left c h f o =
         let t = k.make s c in
@@ -176,9 +176,9 @@ module _ {S C F : Type 0} (k : Keeping S C F) where
 
     -- while it is being stored, behind a journal that was cut back: with part of it there the state is the one before
     pub open_torn : (b : List ℕ) (s : S) (end left : ℕ) (c : C) (n : ℕ)
-        → openJournal k b ≡ Opens s end left
+        → open_journal k b ≡ Opens s end left
         → n < size k c
-        → openJournal k (take end b ++ take n (k.bytes c)) ≡ Opens s end n
+        → open_journal k (take end b ++ take n (k.bytes c)) ≡ Opens s end n
     open_torn b s end left c n h part =
         let r = take n (k.bytes c) in
         let len : length r ≡ n = length-take-le n (k.bytes c) (omega arith) in
@@ -191,12 +191,12 @@ module _ {S C F : Type 0} (k : Keeping S C F) where
         ∙ ap (Opens s end) rest
 
     -- a journal that is cut back to its last whole record opens the same, with nothing left over
-    pub open_again : (b : List ℕ) (s : S) (end left : ℕ) → openJournal k b ≡ Opens s end left → openJournal k (take end b) ≡ Opens s end 0
+    pub open_again : (b : List ℕ) (s : S) (end left : ℕ) → open_journal k b ≡ Opens s end left → open_journal k (take end b) ≡ Opens s end 0
     unfolding front
     open_again b s end left h =
         let place : end + 0 ≡ end = omega arith in
         let none_left : end + 0 - end ≡ 0 = omega arith in
-        ap (openJournal k) (sym (append-nil (take end b)))
+        ap (open_journal k) (sym (append-nil (take end b)))
         ∙ open_goes_on k w b s end left h []
         ∙ ap (opened_at end (end + 0)) (run_short k w s [] refl)
         ∙ opened_good end (end + 0) (stopped s false) refl
@@ -226,8 +226,8 @@ module _ {S C F : Type 0} (k : Keeping S C F) where
           length_is = new;
           fits = omega (arith, t.fits);
           reopens =
-              ap (openJournal k) written
-              ∙ ap (λ (x : List ℕ). openJournal k (x ++ k.bytes c)) (sym cut)
+              ap (open_journal k) written
+              ∙ ap (λ (x : List ℕ). open_journal k (x ++ k.bytes c)) (sym cut)
               ∙ open_next (take len buffer) t.state end t.left c t.opens t.accepted o
               ∙ ap (λ (i : ℕ). Opens (k.make t.state c) i 0) (sym new);
           torn = λ m from below.
@@ -238,8 +238,8 @@ module _ {S C F : Type 0} (k : Keeping S C F) where
               ∙ ap (take m) written
               ∙ ap (λ (i : ℕ). take i (take end buffer ++ k.bytes c)) (sum ∙ ap (λ (i : ℕ). i + j) (sym long))
               ∙ take-append-add (take end buffer) (k.bytes c) j in
-              ap (openJournal k) part
-              ∙ ap (λ (x : List ℕ). openJournal k (x ++ take j (k.bytes c))) (sym cut)
+              ap (open_journal k) part
+              ∙ ap (λ (x : List ℕ). open_journal k (x ++ take j (k.bytes c))) (sym cut)
               ∙ open_torn (take len buffer) t.state end t.left c j t.opens (omega arith);
           written = written;
           beyond =
@@ -271,24 +271,24 @@ module _ {S C F : Type 0} (k : Keeping S C F) where
       St b cs = Stored k w sheet p h b cs
 
       -- up to the last whole record
-      stored_end : {b : List ℕ} {cs : List C} → St b cs → take (length (journalOf k sheet cs)) b ≡ journalOf k sheet cs
+      stored_end : {b : List ℕ} {cs : List C} → St b cs → take (length (journal_of k sheet cs)) b ≡ journal_of k sheet cs
       stored_end {b} {cs} st =
-          ap (take (length (journalOf k sheet cs))) st.parts
-          ∙ take_at (journalOf k sheet cs) st.rest (length (journalOf k sheet cs)) refl
+          ap (take (length (journal_of k sheet cs))) st.parts
+          ∙ take_at (journal_of k sheet cs) st.rest (length (journal_of k sheet cs)) refl
 
       stored_cut_back : {b : List ℕ} {cs : List C}
           → St b cs
           → (s : S) (end left : ℕ)
-          → openJournal k b ≡ Opens s end left
+          → open_journal k b ≡ Opens s end left
           → St (take end b) cs
       stored_cut_back {b} {cs} st s end left o =
-          let e : end ≡ length (journalOf k sheet cs) = opens_end (sym o ∙ stored_opens k w sheet p h st) in
+          let e : end ≡ length (journal_of k sheet cs) = opens_end (sym o ∙ stored_opens k w sheet p h st) in
           record {
             accepted = st.accepted;
             recorded = st.recorded;
             rest = [];
             is_rest = nothing;
-            parts = ap (λ (i : ℕ). take i b) e ∙ stored_end st ∙ sym (append-nil (journalOf k sheet cs));
+            parts = ap (λ (i : ℕ). take i b) e ∙ stored_end st ∙ sym (append-nil (journal_of k sheet cs));
           }
 
       stored_appended : {b : List ℕ} {cs : List C}
@@ -299,9 +299,9 @@ module _ {S C F : Type 0} (k : Keeping S C F) where
           → St (take n (buffer_after k (b ++ rest) (length b) c)) (cs ++ (c ∷ []))
       stored_appended {b} {cs} st rest c at n o a =
           let m = appends_call (b ++ rest) (length b) c at n o a in
-          let j = journalOf k sheet cs in
-          let opens : openJournal k b ≡ Opens m.state at m.left =
-          ap (openJournal k) (sym (take_at b rest (length b) refl)) ∙ m.opens in
+          let j = journal_of k sheet cs in
+          let opens : open_journal k b ≡ Opens m.state at m.left =
+          ap (open_journal k) (sym (take_at b rest (length b) refl)) ∙ m.opens in
           let e = sym opens ∙ stored_opens k w sheet p h st in
           let end : at ≡ length j = opens_end e in
           let all : b ++ rest ≡ j ++ (st.rest ++ rest) =
@@ -318,12 +318,12 @@ module _ {S C F : Type 0} (k : Keeping S C F) where
                 ∙ ap (λ (x : List ℕ). x ++ k.bytes c) (take_at j (st.rest ++ rest) (length j) refl)
                 ∙ append_assoc sheet (records k cs) (k.bytes c)
                 ∙ ap (λ (x : List ℕ). sheet ++ x) (sym (records_snoc cs c))
-                ∙ sym (append-nil (journalOf k sheet (cs ++ (c ∷ []))));
+                ∙ sym (append-nil (journal_of k sheet (cs ++ (c ∷ []))));
           }
 
-      empty_journal : sheet ≡ journalOf k sheet [] ++ []
+      empty_journal : sheet ≡ journal_of k sheet [] ++ []
       unfolding records
-      empty_journal = sym (append-nil (journalOf k sheet []) ∙ append-nil sheet)
+      empty_journal = sym (append-nil (journal_of k sheet []) ∙ append-nil sheet)
 
       -- whatever is kept
       pub kept_stored : {b : List ℕ} {cs : List C} → Kept k sheet b cs → St b cs
@@ -338,52 +338,52 @@ module _ {S C F : Type 0} (k : Keeping S C F) where
       kept_stored (lost kp n fits) = stored_lost k w sheet p h (kept_stored kp) n fits
       kept_stored (cut_back kp s end left o) = stored_cut_back (kept_stored kp) s end left o
 
-      pub kept_opens : {b : List ℕ} {cs : List C} → Kept k sheet b cs → openJournal k b ≡ opensAfter k b sheet (k.first p) cs
+      pub kept_opens : {b : List ℕ} {cs : List C} → Kept k sheet b cs → open_journal k b ≡ opens_after k b sheet (k.first p) cs
       kept_opens kp = stored_opens k w sheet p h (kept_stored kp)
 
       -- storing a record byte by byte: what is kept is cut back first. With j bytes of the record there it still stands
       -- for the same calls; with all of them for one more
-      module _ {b : List ℕ} {cs : List C} (kp : Kept k sheet b cs) (s : S) (end left : ℕ) (o : openJournal k b ≡ Opens s end left) (c : C) (f : k.fault s c ≡ none) (rd : Recorded k c) where
+      module _ {b : List ℕ} {cs : List C} (kp : Kept k sheet b cs) (s : S) (end left : ℕ) (o : open_journal k b ≡ Opens s end left) (c : C) (f : k.fault s c ≡ none) (rd : Recorded k c) where
         abbrev back : List ℕ
         back = take end b
 
         back_long : length back ≡ end
         back_long = length-take-le end b (end_inside k w b s end left o)
 
-        end_is : end ≡ length (journalOf k sheet cs)
+        end_is : end ≡ length (journal_of k sheet cs)
         end_is = opens_end (sym o ∙ kept_opens kp)
 
-        back_opens : openJournal k back ≡ Opens s end 0
+        back_opens : open_journal k back ≡ Opens s end 0
         back_opens = open_again b s end left o
 
-        abbrev with-record : List ℕ
-        with-record = back ++ k.bytes c
+        abbrev with_record : List ℕ
+        with_record = back ++ k.bytes c
 
-        record_long : length with-record ≡ end + size k c
+        record_long : length with_record ≡ end + size k c
         record_long = length-append back (k.bytes c) ∙ ap (λ (i : ℕ). i + size k c) back_long
 
-        is_appended_lem : append k with-record (length back) c ≡ Appended end (end + size k c)
+        is_appended_lem : append k with_record (length back) c ≡ Appended end (end + size k c)
         is_appended_lem =
-            append_inside with-record (length back) c (le-ltb (length with-record) (length back) (omega (arith, record_long, back_long)))
-            ∙ ap (appendTo k (length with-record) c) (ap (openJournal k) (take_at back (k.bytes c) (length back) refl) ∙ back_opens)
-            ∙ to_appended (length with-record) c s end 0 f (le-ltb (length with-record) (end + size k c) (omega (arith, record_long)))
+            append_inside with_record (length back) c (le-ltb (length with_record) (length back) (omega (arith, record_long, back_long)))
+            ∙ ap (append_to k (length with_record) c) (ap (open_journal k) (take_at back (k.bytes c) (length back) refl) ∙ back_opens)
+            ∙ to_appended (length with_record) c s end 0 f (le-ltb (length with_record) (end + size k c) (omega (arith, record_long)))
 
-        stored_bytes : take (end + size k c) (buffer_after k with-record (length back) c) ≡ with-record
+        stored_bytes : take (end + size k c) (buffer_after k with_record (length back) c) ≡ with_record
         stored_bytes =
-            (appends_call with-record (length back) c end (end + size k c) rd is_appended_lem).written
+            (appends_call with_record (length back) c end (end + size k c) rd is_appended_lem).written
             ∙ ap (λ (l : List ℕ). l ++ k.bytes c) (take_at back (k.bytes c) end back_long)
 
-        pub kept_record : Kept k sheet with-record (cs ++ (c ∷ []))
+        pub kept_record : Kept k sheet with_record (cs ++ (c ∷ []))
         kept_record =
             subst (λ (l : List ℕ). Kept k sheet l (cs ++ (c ∷ []))) stored_bytes
             (appended (cut_back kp s end left o) (k.bytes c) c end (end + size k c) rd is_appended_lem)
 
         pub kept_half : (j : ℕ) → j < size k c → Kept k sheet (back ++ take j (k.bytes c)) cs
         kept_half j part =
-            let whole_long : length (journalOf k sheet cs) ≡ length sheet + length (records k cs) = length-append sheet (records k cs) in
+            let whole_long : length (journal_of k sheet cs) ≡ length sheet + length (records k cs) = length-append sheet (records k cs) in
             let fits : length sheet ≤ end + j = omega (arith, end_is) in
-            let bytes : take (end + j) with-record ≡ back ++ take j (k.bytes c) =
-            ap (λ (i : ℕ). take (i + j) with-record) (sym back_long) ∙ take-append-add back (k.bytes c) j in
+            let bytes : take (end + j) with_record ≡ back ++ take j (k.bytes c) =
+            ap (λ (i : ℕ). take (i + j) with_record) (sym back_long) ∙ take-append-add back (k.bytes c) j in
             let exact : ExactlyWhole k (end + j - length sheet) (cs ++ (c ∷ [])) cs = record {
               lost = c ∷ [];
               first = refl;
@@ -391,5 +391,5 @@ module _ {S C F : Type 0} (k : Keeping S C F) where
               no_more = λ d more e. let same : c ≡ d = cc in omega (arith, end_is, ap (size k) same);
             } in
             subst (λ (l : List ℕ). Kept k sheet l cs) bytes
-            (subst (Kept k sheet (take (end + j) with-record)) (sym (exactly_unique k w (end + j - length sheet) (cs ++ (c ∷ [])) cs exact))
+            (subst (Kept k sheet (take (end + j) with_record)) (sym (exactly_unique k w (end + j - length sheet) (cs ++ (c ∷ [])) cs exact))
             (lost kept_record (end + j) fits))

@@ -24,12 +24,12 @@ use Rattle.scheduler.specs.Lists.{scheduler, turned_down}
 use Rattle.scheduler.specs.Demand.{Demand3, seen}
 use Rattle.scheduler.specs.Runner.{held_count}
 use Rattle.journal.specs.Types.{Call, Submit, Close, Finish, Advance, State, AppendReply}
-use Rattle.journal.specs.Records.{front, runUpTo, run, wholeIn}
-use Rattle.journal.specs.Journals.{Opening, Opens, opened_at, openJournal, room_for, appendTo, append, written_by, buffer_after}
-use Rattle.journal.specs.Claims.{opensAfter, SurvivesCut, AppendsCall, Kept, fresh, appended as store, lost, cut_back}
+use Rattle.journal.specs.Records.{front, run_up_to, run, whole_inside}
+use Rattle.journal.specs.Journals.{Opening, Opens, opened_at, open_journal, room_for, append_to, append, written_by, buffer_after}
+use Rattle.journal.specs.Claims.{opens_after, SurvivesCut, AppendsCall, Kept, fresh, appended as store, lost, cut_back}
 use Rattle.journal.specs.Calls.{calls, asked_call, record_in, record_size}
 use Rattle.journal.specs.Scheduled.{StoresRecord, HoldsCalls}
-use Rattle.journal.specs.Answers.{journal_read, journal_number, journal_offset, journal_left, askedReply, bufferAsked}
+use Rattle.journal.specs.Answers.{journal_read, journal_number, journal_offset, journal_left, asked_reply, buffer_asked}
 use Rattle.journal.proofs.Appends.{open_again}
 use Rattle.journal.proofs.CallLaws.{lawful}
 use Rattle.journal.proofs.Scheduled.{state_of, cut, keeps, keeps_demand3, appending, stores_record, broken_holds}
@@ -49,7 +49,7 @@ Shown = ℕ × ℕ × ℕ × ℕ × ℕ × ℕ
 
 unfoldable pub shown : List ℕ → Shown
 shown b =
-    let j = journal_read (openJournal calls b) in
+    let j = journal_read (open_journal calls b) in
     (journal_number j.verdict, journal_offset j.verdict, journal_left j.verdict, length (lines j.state), held_count j.state, j.state.minute)
 
 abbrev Case : Type 0
@@ -101,8 +101,8 @@ Append = List ℕ × ℕ × ℕ × ℕ × ℕ × ℕ × ℕ × List ℕ
 
 unfoldable pub appended : List ℕ → ℕ → ℕ → ℕ → ℕ × ℕ × ℕ × List ℕ
 appended b n k x =
-    let r = askedReply b n (asked_call k x) in
-    (r.number, r.len, r.at, bufferAsked b n (asked_call k x))
+    let r = asked_reply b n (asked_call k x) in
+    (r.number, r.len, r.at, buffer_asked b n (asked_call k x))
 
 abbrev appends : List Append
 appends =
@@ -159,33 +159,33 @@ pub journal_rows :
     (map (λ (c : Case). shown c.0) cases ≡ map (λ (c : Case). (c.1, c.2, c.3, c.4, c.5, c.6)) cases)
     × (map (λ (a : Append). appended a.0 a.1 a.2 a.3) appends ≡ map (λ (a : Append). (a.4, a.5, a.6, a.7)) appends)
     × (map (λ (l : Lent). lent l.0 l.1) lents ≡ map (λ (l : Lent). (l.2, l.3)) lents)
-unfolding openJournal opened_at run runUpTo front read_plan read_from record_fault first_fault declare add_event add_rule
+unfolding open_journal opened_at run run_up_to front read_plan read_from record_fault first_fault declare add_event add_rule
     add_events add_window rule_of tabulate any_below all_below count_below first_of lowest hold settle_as shut break_rule set_minute named
     enforceable has_event allowed_at over_at allowed_in over_in sound_event sound_rule bad_window sound_window sound_windows bars
     makes_wait forbids owes ready listed_as fates_in any_done done_in done_in_turn holds declared_only same_fates ruled_out barred
     forbidden owing strains may_do do_all order_of chosen to_refuse to_do settle_once settle_up_to settle record_broken do_alone
     decide submit lapse close_step refuse_held finish advance_to coherent_event coherent_rule coherent call_fault accept call
-    first_call advance_in any_call_first append appendTo room_for written_by asked_call askedReply bufferAsked record_in record_size shown
+    first_call advance_in any_call_first append append_to room_for written_by asked_call asked_reply buffer_asked record_in record_size shown
     appended lent
 journal_rows = (refl, refl, refl)
 
 -- a host's morning, by the definition of what is kept: a submit is appended to the sheet alone, its last byte is lost,
 -- what is left is cut back, and a closing is appended in a buffer that holds other bytes behind it
 pub kept_morning : Kept calls sheet_a (sheet_a ++ (17 ∷ 1 ∷ [])) (Close 1 ∷ [])
-unfolding openJournal opened_at run runUpTo front read_plan read_from record_fault first_fault declare add_event add_rule
+unfolding open_journal opened_at run run_up_to front read_plan read_from record_fault first_fault declare add_event add_rule
     add_events add_window rule_of tabulate any_below all_below count_below first_of lowest hold settle_as shut break_rule set_minute named
     enforceable has_event allowed_at over_at allowed_in over_in sound_event sound_rule bad_window sound_window sound_windows bars
     makes_wait forbids owes ready listed_as fates_in any_done done_in done_in_turn holds declared_only same_fates ruled_out barred
     forbidden owing strains may_do do_all order_of chosen to_refuse to_do settle_once settle_up_to settle record_broken do_alone
     decide submit lapse close_step refuse_held finish advance_to coherent_event coherent_rule coherent call_fault accept call
-    wholeIn first_call advance_in any_call_first append appendTo room_for written_by
+    whole_inside first_call advance_in any_call_first append append_to room_for written_by
 kept_morning =
     store {b = sheet_a} {cs = []}
     (cut_back {b = sheet_a ++ (16 ∷ [])} {cs = []}
     (lost {b = sheet_a ++ (16 ∷ 0 ∷ [])} {cs = Submit 0 ∷ []}
     (store {b = sheet_a} {cs = []} fresh (0 ∷ 0 ∷ []) (Submit 0) 13 15 refl refl)
     14 (omega arith))
-    (journal_read (openJournal calls (sheet_a ++ (16 ∷ [])))).state 13 1 refl)
+    (journal_read (open_journal calls (sheet_a ++ (16 ∷ [])))).state 13 1 refl)
     (9 ∷ 9 ∷ 9 ∷ []) (Close 1) 13 15 refl refl
 
 -- the theorems, applied to case A's sheet and to this morning: their premises can be met
@@ -197,16 +197,16 @@ pub instances :
     × AppendsCall calls (sheet_a ++ (17 ∷ 7 ∷ 238 ∷ [])) 14 (Submit 0) 13 15
     × StoresRecord (sheet_a ++ (17 ∷ [])) first_a 13 (Submit 0)
     × HoldsCalls (sheet_a ++ (16 ∷ 0 ∷ 5 ∷ [])) (call first_a (Submit 0)).state 15
-    × Demand3 first_a.plan (seen scheduler first_a (Close 1 ∷ [])) (state_of (openJournal calls (sheet_a ++ (17 ∷ 1 ∷ []))))
-    × (openJournal calls (sheet_a ++ (17 ∷ 1 ∷ [])) ≡ opensAfter calls (sheet_a ++ (17 ∷ 1 ∷ [])) sheet_a first_a (Close 1 ∷ []))
-    × (openJournal calls (take 13 (sheet_a ++ (16 ∷ []))) ≡ Opens first_a 13 0)
-unfolding turned_down read_sheet sheet_plan ending openJournal opened_at run runUpTo front read_plan read_from record_fault first_fault declare add_event add_rule
+    × Demand3 first_a.plan (seen scheduler first_a (Close 1 ∷ [])) (state_of (open_journal calls (sheet_a ++ (17 ∷ 1 ∷ []))))
+    × (open_journal calls (sheet_a ++ (17 ∷ 1 ∷ [])) ≡ opens_after calls (sheet_a ++ (17 ∷ 1 ∷ [])) sheet_a first_a (Close 1 ∷ []))
+    × (open_journal calls (take 13 (sheet_a ++ (16 ∷ []))) ≡ Opens first_a 13 0)
+unfolding turned_down read_sheet sheet_plan ending open_journal opened_at run run_up_to front read_plan read_from record_fault first_fault declare add_event add_rule
     add_events add_window rule_of tabulate any_below all_below count_below first_of lowest hold settle_as shut break_rule set_minute named
     enforceable has_event allowed_at over_at allowed_in over_in sound_event sound_rule bad_window sound_window sound_windows bars
     makes_wait forbids owes ready listed_as fates_in any_done done_in done_in_turn holds declared_only same_fates ruled_out barred
     forbidden owing strains may_do do_all order_of chosen to_refuse to_do settle_once settle_up_to settle record_broken do_alone
     decide submit lapse close_step refuse_held finish advance_to coherent_event coherent_rule coherent call_fault accept call
-    wholeIn first_call advance_in any_call_first append appendTo room_for written_by
+    whole_inside first_call advance_in any_call_first append append_to room_for written_by
 instances = (
   cut sheet_a first_a refl (Submit 0 ∷ Close 1 ∷ []) refl,
   appending (sheet_a ++ (17 ∷ 7 ∷ 238 ∷ [])) 14 (Submit 0) 13 15 refl,

@@ -15,8 +15,8 @@ use Rattle.scheduler.specs.Answers.{call_fault, call}
 use Rattle.scheduler.specs.Lists.{scheduler, after, turned_down}
 use Rattle.scheduler.specs.Demand.{Demand3, seen}
 use Rattle.journal.specs.Types.{Plan, Call, Submit, Cut, State, JournalVerdict, Journal}
-use Rattle.journal.specs.Records.{made, records, wholeIn}
-use Rattle.journal.specs.Journals.{Opens, Unread, Appended, journalOf, openJournal, append, buffer_after}
+use Rattle.journal.specs.Records.{made, records, whole_inside}
+use Rattle.journal.specs.Journals.{Opens, Unread, Appended, journal_of, open_journal, append, buffer_after}
 use Rattle.journal.specs.Claims.{SurvivesCut, AppendsCall}
 use Rattle.journal.specs.Calls.{calls}
 use Rattle.journal.specs.Scheduled.{RecordAppended, StoresRecord, HoldsCalls, JournalHolds}
@@ -31,21 +31,21 @@ now = Submit 0
 -- every cut behind the sheet, and one inside it
 pub cut_says : (p : Plan)
     → SurvivesCut calls one p (now ∷ [])
-    → (openJournal calls one ≡ Opens (first_state p) 4 0)
-    × (openJournal calls (one ++ (16 ∷ [])) ≡ Opens (first_state p) 4 1)
-    × (openJournal calls (one ++ (16 ∷ 0 ∷ [])) ≡ Opens (call (first_state p) now).state 6 0)
-    × ((at : ℕ) × (at ≤ 2) × (openJournal calls (1 ∷ 0 ∷ []) ≡ Unread Cut at))
-unfolding records made wholeIn
+    → (open_journal calls one ≡ Opens (first_state p) 4 0)
+    × (open_journal calls (one ++ (16 ∷ [])) ≡ Opens (first_state p) 4 1)
+    × (open_journal calls (one ++ (16 ∷ 0 ∷ [])) ≡ Opens (call (first_state p) now).state 6 0)
+    × ((at : ℕ) × (at ≤ 2) × (open_journal calls (1 ∷ 0 ∷ []) ≡ Unread Cut at))
+unfolding records made whole_inside
 cut_says p c = (c.behind 4 (omega arith), c.behind 5 (omega arith), c.behind 6 (omega arith), c.inside 2 (omega arith))
 
 -- a record over leftover bytes: opened, cut again, and the bytes beyond it
 module _ (buffer : List ℕ) (a : AppendsCall calls buffer 6 now 4 6) where
   pub append_says :
-      (openJournal calls (take 6 buffer) ≡ Opens a.state 4 a.left)
+      (open_journal calls (take 6 buffer) ≡ Opens a.state 4 a.left)
       × (call_fault a.state now ≡ none)
-      × (openJournal calls (take 6 (buffer_after calls buffer 6 now)) ≡ Opens (call a.state now).state 6 0)
-      × (openJournal calls (take 5 (buffer_after calls buffer 6 now)) ≡ Opens a.state 4 1)
-      × (openJournal calls (take 4 (buffer_after calls buffer 6 now)) ≡ Opens a.state 4 0)
+      × (open_journal calls (take 6 (buffer_after calls buffer 6 now)) ≡ Opens (call a.state now).state 6 0)
+      × (open_journal calls (take 5 (buffer_after calls buffer 6 now)) ≡ Opens a.state 4 1)
+      × (open_journal calls (take 4 (buffer_after calls buffer 6 now)) ≡ Opens a.state 4 0)
   append_says = (a.opens, a.accepted, a.reopens, a.torn 5 (omega arith) (omega arith), a.torn 4 (omega arith) (omega arith))
 
   pub append_keeps :
@@ -58,8 +58,8 @@ module _ (buffer : List ℕ) (a : AppendsCall calls buffer 6 now 4 6) where
 -- a record stored by a host that keeps the state
 pub store_says : (b : List ℕ) (s : State)
     → StoresRecord b s 4 now
-    → (openJournal calls (take 4 b ++ (16 ∷ 0 ∷ [])) ≡ Opens (call s now).state 6 0)
-    × (openJournal calls (take 4 b ++ (16 ∷ [])) ≡ Opens s 4 1)
+    → (open_journal calls (take 4 b ++ (16 ∷ 0 ∷ [])) ≡ Opens (call s now).state 6 0)
+    × (open_journal calls (take 4 b ++ (16 ∷ [])) ≡ Opens s 4 1)
     × (append calls (take 4 b ++ (9 ∷ 9 ∷ [])) 4 now ≡ Appended 4 6)
     × (take 6 (buffer_after calls (take 4 b ++ (9 ∷ 9 ∷ [])) 4 now) ≡ take 4 b ++ (16 ∷ 0 ∷ []))
 store_says b s r =
@@ -73,7 +73,7 @@ module _ (b : List ℕ) (r : Journal) (end left : ℕ) (j : JournalHolds b r) wh
       (first : State) × (cs : List Call) × (at : ℕ)
       × (read_sheet (take at b) ≡ admitted first)
       × (turned_down first cs ≡ 0)
-      × (are_bytes b ≡ true → take n b ≡ journalOf calls (take at b) cs)
+      × (are_bytes b ≡ true → take n b ≡ journal_of calls (take at b) cs)
       × (t ≡ after scheduler first cs)
       × Demand3 first.plan (seen scheduler first cs) t
       × (coherent t ≡ true)

@@ -25,9 +25,9 @@ use Rattle.plan.proofs.Tables.{row_miss}
 use Rattle.theory.proofs.Coherence.{call_taken, fault_answer}
 use Rattle.theory.proofs.Demands.{demand3}
 use Rattle.journal.specs.Types.{Plan, Call, CallFault, Incoherent, SheetFault, Extra, Answer, Admitted, Faulty, State, Reading}
-use Rattle.journal.specs.Records.{Ran, size, run, records, made, Accepted, wholeIn}
-use Rattle.journal.specs.Journals.{Opening, Opens, Broken, Appended, journalOf, openJournal, appendTo, append, buffer_after}
-use Rattle.journal.specs.Claims.{opensAfter, SurvivesCut, ExactlyWhole, AppendsCall, Kept}
+use Rattle.journal.specs.Records.{Ran, size, run, records, made, Accepted, whole_inside}
+use Rattle.journal.specs.Journals.{Opening, Opens, Broken, Appended, journal_of, open_journal, append_to, append, buffer_after}
+use Rattle.journal.specs.Claims.{opens_after, SurvivesCut, ExactlyWhole, AppendsCall, Kept}
 use Rattle.journal.specs.Calls.{calls}
 use Rattle.journal.specs.Answers.{journal_read, journal_number}
 use Rattle.journal.specs.Scheduled.{RecordAppended, StoresRecord, HoldsCalls}
@@ -190,43 +190,43 @@ module _ (sheet : List ℕ) (s : State) (read : read_sheet sheet ≡ admitted s)
     abbrev remains : List ℕ
     remains = take n (sheet ++ encode cs)
 
-    as_kept : remains ≡ take n (journalOf calls sheet cs)
+    as_kept : remains ≡ take n (journal_of calls sheet cs)
     as_kept = ap (λ (l : List ℕ). take n (sheet ++ l)) (sym (records_encode cs))
 
     pub cut_opens : length sheet ≤ n
         → (kept : List Call)
         → ExactlyWhole calls (n - length sheet) cs kept
-        → openJournal calls remains
+        → open_journal calls remains
         ≡ Opens (after scheduler s kept) (length (sheet ++ encode kept)) (length remains - length (sheet ++ encode kept))
     cut_opens fits kept e =
-        let j = take n (journalOf calls sheet cs) in
-        let same : wholeIn calls (n - length sheet) cs ≡ kept = sym (exactly_unique calls lawful (n - length sheet) cs kept e) in
-        let long : length (journalOf calls sheet kept) ≡ length (sheet ++ encode kept) =
+        let j = take n (journal_of calls sheet cs) in
+        let same : whole_inside calls (n - length sheet) cs ≡ kept = sym (exactly_unique calls lawful (n - length sheet) cs kept e) in
+        let long : length (journal_of calls sheet kept) ≡ length (sheet ++ encode kept) =
         ap (λ (l : List ℕ). length (sheet ++ l)) (records_encode kept) in
-        ap (openJournal calls) as_kept
+        ap (open_journal calls) as_kept
         ∙ (cut cs h).behind n fits
-        ∙ ap (λ (l : List Call). opensAfter calls j sheet (first_state s.plan) l) same
-        ∙ ap (λ (t : State). opensAfter calls j sheet t kept) same_first
-        ∙ ap (λ (t : State). Opens t (length (journalOf calls sheet kept)) (length j - length (journalOf calls sheet kept))) (made_after s kept)
+        ∙ ap (λ (l : List Call). opens_after calls j sheet (first_state s.plan) l) same
+        ∙ ap (λ (t : State). opens_after calls j sheet t kept) same_first
+        ∙ ap (λ (t : State). Opens t (length (journal_of calls sheet kept)) (length j - length (journal_of calls sheet kept))) (made_after s kept)
         ∙ ap (λ (m : ℕ). Opens (after scheduler s kept) m (length j - m)) long
         ∙ ap (λ (l : List ℕ). Opens (after scheduler s kept) (length (sheet ++ encode kept)) (length l - length (sheet ++ encode kept))) (sym as_kept)
 
-    pub cut_in_sheet : n < length sheet → journal_number (journal_read (openJournal calls remains)).verdict ≡ 1
+    pub cut_in_sheet : n < length sheet → journal_number (journal_read (open_journal calls remains)).verdict ≡ 1
     cut_in_sheet short =
         let c = (cut cs h).inside n short in
-        ap (λ (l : List ℕ). journal_number (journal_read (openJournal calls l)).verdict) as_kept ∙ ap (λ (o : Opening State). journal_number (journal_read o).verdict) c.2
+        ap (λ (l : List ℕ). journal_number (journal_read (open_journal calls l)).verdict) as_kept ∙ ap (λ (o : Opening State). journal_number (journal_read o).verdict) c.2
 
   -- whatever a host keeps that began with the sheet alone opens to the state after the calls that it has not lost
-  pub keeps : (b : List ℕ) (cs : List Call) → Kept calls sheet b cs → openJournal calls b ≡ opensAfter calls b sheet s cs
+  pub keeps : (b : List ℕ) (cs : List Call) → Kept calls sheet b cs → open_journal calls b ≡ opens_after calls b sheet s cs
   keeps b cs kp =
-      kept_opens calls lawful sheet s.plan reads_plan kp ∙ ap (λ (t : State). opensAfter calls b sheet t cs) same_first
+      kept_opens calls lawful sheet s.plan reads_plan kp ∙ ap (λ (t : State). opens_after calls b sheet t cs) same_first
 
   -- and demand 3 holds of them
   pub keeps_demand3 : (b : List ℕ) (cs : List Call)
       → Kept calls sheet b cs
-      → Demand3 s.plan (seen scheduler s cs) (state_of (openJournal calls b))
+      → Demand3 s.plan (seen scheduler s cs) (state_of (open_journal calls b))
   keeps_demand3 b cs kp =
-      let e : state_of (openJournal calls b) ≡ after scheduler s cs = ap state_of (keeps b cs kp) ∙ made_after s cs in
+      let e : state_of (open_journal calls b) ≡ after scheduler s cs = ap state_of (keeps b cs kp) ∙ made_after s cs in
       subst (Demand3 s.plan (seen scheduler s cs)) (sym e) (demand3 sheet s cs read)
 
 -- an appended record
@@ -240,7 +240,7 @@ module _ (buffer : List ℕ) (len : ℕ) (c : Call) (end n : ℕ) (h : append ca
   abbrev written : List ℕ
   written = buffer_after calls buffer len c
 
-  pub append_makes : state_of (openJournal calls (take n written)) ≡ (call (state_of (openJournal calls (take len buffer))) c).state
+  pub append_makes : state_of (open_journal calls (take n written)) ≡ (call (state_of (open_journal calls (take len buffer))) c).state
   append_makes =
       let m = appending buffer len c end n h in
       ap state_of m.reopens ∙ ap (λ (o : Opening State). (call (state_of o) c).state) (sym m.opens)
@@ -265,7 +265,7 @@ module _ (buffer : List ℕ) (len : ℕ) (c : Call) (end n : ℕ) (h : append ca
       ]
 
 -- a host that keeps the state and stores record after record
-module _ (b : List ℕ) (s : State) (end left : ℕ) (o : openJournal calls b ≡ Opens s end left) (c : Call) (f : call_fault s c ≡ none) where
+module _ (b : List ℕ) (s : State) (end left : ℕ) (o : open_journal calls b ≡ Opens s end left) (c : Call) (f : call_fault s c ≡ none) where
   abbrev whole_part : List ℕ
   whole_part = take end b
 
@@ -280,7 +280,7 @@ module _ (b : List ℕ) (s : State) (end left : ℕ) (o : openJournal calls b �
       let front : take end buffer ≡ whole_part = take_at whole_part rest end part_long in
       let answer : append calls buffer end c ≡ Appended end (end + size calls c) =
       append_inside calls buffer end c (le-ltb (length buffer) end (omega arith))
-      ∙ ap (appendTo calls (length buffer) c) (ap (openJournal calls) front ∙ open_again calls lawful b s end left o)
+      ∙ ap (append_to calls (length buffer) c) (ap (open_journal calls) front ∙ open_again calls lawful b s end left o)
       ∙ to_appended calls (length buffer) c s end 0 f (le-ltb (length buffer) (end + size calls c) (omega arith)) in
       record {
         answer = answer ∙ ap (Appended end) (ap (λ (i : ℕ). end + i) (sym (size_same c)));
@@ -324,14 +324,14 @@ holds_run b p at h =
       hangs = demand.claim.coherent_end;
     }
 
-pub opens_holds : (b : List ℕ) (t : State) (end left : ℕ) → openJournal calls b ≡ Opens t end left → HoldsCalls b t end
+pub opens_holds : (b : List ℕ) (t : State) (end left : ℕ) → open_journal calls b ≡ Opens t end left → HoldsCalls b t end
 opens_holds b t end left h =
     let o = opened calls b t end left h in
     subst (λ (n : ℕ). HoldsCalls b t n) o.ends
     (subst (λ (u : State). HoldsCalls b u (o.at + (run calls (first_state o.plan) (drop o.at b)).used)) o.state
     (holds_run b o.plan o.at o.reads))
 
-pub broken_holds : (b : List ℕ) (t : State) (end : ℕ) → openJournal calls b ≡ Broken t end → HoldsCalls b t end
+pub broken_holds : (b : List ℕ) (t : State) (end : ℕ) → open_journal calls b ≡ Broken t end → HoldsCalls b t end
 broken_holds b t end h = go (read_plan b) refl
   where
     go : (o : PlanReading) → read_plan b ≡ o → HoldsCalls b t end

@@ -4,7 +4,7 @@ use Rattle.plan.specs.Faults.{sheet_fault_number, call_fault_number}
 use Rattle.scheduler.specs.State.{empty_state}
 use Rattle.journal.specs.Types.{Call, CallFault, State, RecordRead, Asked, Wanted, Wrong, JournalVerdict, Journal, AppendAnswer, AppendReply}
 use Rattle.journal.specs.Records.{Front, Whole, Short, Other}
-use Rattle.journal.specs.Journals.{Opening, Opens, Broken, Unread, Appending, Appended, TooLong, BadSheet, BadRecord, TurnedDown, NoRoom, openJournal, append, buffer_after}
+use Rattle.journal.specs.Journals.{Opening, Opens, Broken, Unread, Appending, Appended, TooLong, BadSheet, BadRecord, TurnedDown, NoRoom, open_journal, append, buffer_after}
 use Rattle.journal.specs.Calls.{calls}
 
 abbrev pub record_read : Front Call → RecordRead
@@ -69,14 +69,14 @@ refusal_of n len v = record { number = cond (eqb (journal_number v) 0) n (journa
 -- appending what a host asks for to the journal in the first `len` bytes of a buffer. What is no call is turned down
 -- where a call would be: after the stated length and the journal, before the room (16.12)
 module _ (buffer : List ℕ) (len : ℕ) where
-  unfoldable pub askedReply : Asked → AppendReply
-  askedReply (Wanted c) = reply_of len (append_answer (append calls buffer len c))
-  askedReply (Wrong n) =
+  unfoldable pub asked_reply : Asked → AppendReply
+  asked_reply (Wanted c) = reply_of len (append_answer (append calls buffer len c))
+  asked_reply (Wrong n) =
       cond (ltb (length buffer) len)
       (reply_of len AppendAnswer.TooLong)
-      (refusal_of n len (journal_read (openJournal calls (take len buffer))).verdict)
+      (refusal_of n len (journal_read (open_journal calls (take len buffer))).verdict)
 
   -- the buffer after it (16.7)
-  unfoldable pub bufferAsked : Asked → List ℕ
-  bufferAsked (Wanted c) = buffer_after calls buffer len c
-  bufferAsked (Wrong n) = buffer
+  unfoldable pub buffer_asked : Asked → List ℕ
+  buffer_asked (Wanted c) = buffer_after calls buffer len c
+  buffer_asked (Wrong n) = buffer

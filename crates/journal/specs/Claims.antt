@@ -2,8 +2,8 @@
 use Rattle.std.specs.Prelude.{ℕ, ◌+◌, ◌-◌, ◌≤◌, ◌<◌, Bool, true, false, List, [], ◌∷◌, ◌++◌, ◌≡◌, length, take, drop}
 use Rattle.std.proofs.Math.Option.{none}
 use Rattle.journal.specs.Types.{Plan, Cut}
-use Rattle.journal.specs.Records.{Keeping, size, records, made, Recorded, wholeIn}
-use Rattle.journal.specs.Journals.{Opening, Opens, Unread, Appending, Appended, TooLong, BadSheet, BadRecord, TurnedDown, NoRoom, journalOf, openJournal, append, buffer_after}
+use Rattle.journal.specs.Records.{Keeping, size, records, made, Recorded, whole_inside}
+use Rattle.journal.specs.Journals.{Opening, Opens, Unread, Appending, Appended, TooLong, BadSheet, BadRecord, TurnedDown, NoRoom, journal_of, open_journal, append, buffer_after}
 
 abbrev pub is_appended : {F : Type 0} → Appending F → Bool
 is_appended (Appended at n) = true
@@ -15,17 +15,17 @@ is_appended (NoRoom at) = false
 
 module _ {S C F : Type 0} (k : Keeping S C F) where
   -- bytes b open to the state after these calls, from s on, and all that stands behind their records is left over
-  abbrev pub opensAfter : List ℕ → List ℕ → S → List C → Opening S
-  opensAfter b sheet s cs = Opens (made k s cs) (length (journalOf k sheet cs)) (length b - length (journalOf k sheet cs))
+  abbrev pub opens_after : List ℕ → List ℕ → S → List C → Opening S
+  opens_after b sheet s cs = Opens (made k s cs) (length (journal_of k sheet cs)) (length b - length (journal_of k sheet cs))
 
   -- a journal of which only the first n bytes remain. With the sheet whole it opens to the state after exactly the calls
   -- whose records are whole; a cut inside the sheet is number 1 (16.8)
   pub record SurvivesCut (sheet : List ℕ) (p : Plan) (cs : List C) : Type 0 where
     pub behind : (n : ℕ) → length sheet ≤ n
-        → openJournal k (take n (journalOf k sheet cs))
-        ≡ opensAfter (take n (journalOf k sheet cs)) sheet (k.first p) (wholeIn k (n - length sheet) cs)
+        → open_journal k (take n (journal_of k sheet cs))
+        ≡ opens_after (take n (journal_of k sheet cs)) sheet (k.first p) (whole_inside k (n - length sheet) cs)
     pub inside : (n : ℕ) → n < length sheet
-        → (at : ℕ) × (at ≤ n) × (openJournal k (take n (journalOf k sheet cs)) ≡ Unread Cut at)
+        → (at : ℕ) × (at ≤ n) × (open_journal k (take n (journal_of k sheet cs)) ≡ Unread Cut at)
 
   -- the calls that remain are the first ones, as many as have their records whole in n bytes (16.8)
   pub record ExactlyWhole (n : ℕ) (cs remain : List C) : Type 0 where
@@ -40,12 +40,12 @@ module _ {S C F : Type 0} (k : Keeping S C F) where
   pub record AppendsCall (buffer : List ℕ) (len : ℕ) (c : C) (end n : ℕ) : Type 0 where
     pub state : S
     pub left : ℕ
-    pub opens : openJournal k (take len buffer) ≡ Opens state end left
+    pub opens : open_journal k (take len buffer) ≡ Opens state end left
     pub accepted : k.fault state c ≡ none
     pub length_is : n ≡ end + size k c
     pub fits : n ≤ length buffer
-    pub reopens : openJournal k (take n (buffer_after k buffer len c)) ≡ Opens (k.make state c) n 0
-    pub torn : (m : ℕ) → end ≤ m → m < n → openJournal k (take m (buffer_after k buffer len c)) ≡ Opens state end (m - end)
+    pub reopens : open_journal k (take n (buffer_after k buffer len c)) ≡ Opens (k.make state c) n 0
+    pub torn : (m : ℕ) → end ≤ m → m < n → open_journal k (take m (buffer_after k buffer len c)) ≡ Opens state end (m - end)
     pub written : take n (buffer_after k buffer len c) ≡ take end buffer ++ k.bytes c
     pub beyond : drop n (buffer_after k buffer len c) ≡ drop n buffer
     pub as_long : length (buffer_after k buffer len c) ≡ length buffer
@@ -63,8 +63,8 @@ module _ {S C F : Type 0} (k : Keeping S C F) where
     lost : {b : List ℕ} {cs : List C} → Kept sheet b cs
         → (n : ℕ)
         → length sheet ≤ n
-        → Kept sheet (take n b) (wholeIn k (n - length sheet) cs)
+        → Kept sheet (take n b) (whole_inside k (n - length sheet) cs)
     cut_back : {b : List ℕ} {cs : List C} → Kept sheet b cs
         → (s : S) (end left : ℕ)
-        → openJournal k b ≡ Opens s end left
+        → open_journal k b ≡ Opens s end left
         → Kept sheet (take end b) cs

@@ -33,12 +33,12 @@ overwritten b at r = take at b ++ r ++ drop (at + length r) b
 
 module _ {S C F : Type 0} (k : Keeping S C F) where
   -- the journal of a sheet and of the calls that were accepted on it (16.1)
-  abbrev pub journalOf : List ℕ → List C → List ℕ
-  journalOf sheet cs = sheet ++ records k cs
+  abbrev pub journal_of : List ℕ → List C → List ℕ
+  journal_of sheet cs = sheet ++ records k cs
 
   -- the plan is read from the front, whatever follows it; then record after record (16.2)
-  unfoldable pub openJournal : List ℕ → Opening S
-  openJournal b = elim (read_plan b) [
+  unfoldable pub open_journal : List ℕ → Opening S
+  open_journal b = elim (read_plan b) [
     | whole p at ↦ opened_at at (length b) (run k (k.first p) (drop at b))
     | faulty f at ↦ Unread f at
   ]
@@ -48,8 +48,8 @@ module _ {S C F : Type 0} (k : Keeping S C F) where
   room_for room end c = elim (ltb room (end + size k c)) [ true ↦ NoRoom end | false ↦ Appended end (end + size k c) ]
 
   -- the tests after the stated length: the journal, the call, the room (16.6)
-  unfoldable pub appendTo : ℕ → C → Opening S → Appending F
-  appendTo room c o = elim o [
+  unfoldable pub append_to : ℕ → C → Opening S → Appending F
+  append_to room c o = elim o [
     | Unread f at ↦ BadSheet f at
     | Broken s at ↦ BadRecord at
     | Opens s end left ↦ elim (k.fault s c) [ some f ↦ TurnedDown f end | none ↦ room_for room end c ]
@@ -59,7 +59,7 @@ module _ {S C F : Type 0} (k : Keeping S C F) where
   unfoldable pub append : List ℕ → ℕ → C → Appending F
   append buffer len c = elim (ltb (length buffer) len) [
     | true ↦ TooLong
-    | false ↦ appendTo (length buffer) c (openJournal (take len buffer))
+    | false ↦ append_to (length buffer) c (open_journal (take len buffer))
   ]
 
   -- the buffer after it: the record behind the last whole one, over leftover bytes; where nothing is appended, the

@@ -55,11 +55,11 @@ module _ {S C F : Type 0} (k : Keeping S C F) where
   -- makes record after record, each call on the state that the one before it left. It stops at the end and at a cut
   -- record; at a record that is no call's and at a call that the state there turns down it stops bad. At most n records;
   -- `run` allows enough (16.3, 16.4)
-  unfoldable pub runUpTo : ℕ → S → List ℕ → Ran S
-  runUpTo zero s b = stopped s false
-  runUpTo (suc n) s b = elim (front b) [
+  unfoldable pub run_up_to : ℕ → S → List ℕ → Ran S
+  run_up_to zero s b = stopped s false
+  run_up_to (suc n) s b = elim (front b) [
     | Whole c ↦ elim (k.fault s c) [
-      | none ↦ further (size c) (runUpTo n (k.make s c) (drop (size c) b))
+      | none ↦ further (size c) (run_up_to n (k.make s c) (drop (size c) b))
       | some f ↦ stopped s true
     ]
     | Short ↦ stopped s false
@@ -67,7 +67,7 @@ module _ {S C F : Type 0} (k : Keeping S C F) where
   ]
 
   unfoldable pub run : S → List ℕ → Ran S
-  run s b = runUpTo (length b) s b
+  run s b = run_up_to (length b) s b
 
   -- the records of calls, one after another (16.1)
   unfoldable pub records : List C → List ℕ
@@ -93,6 +93,6 @@ module _ {S C F : Type 0} (k : Keeping S C F) where
   AllRecorded (c ∷ cs) = Recorded c × AllRecorded cs
 
   -- the calls whose records are whole in the first n bytes of the records of these calls (16.8)
-  unfoldable pub wholeIn : ℕ → List C → List C
-  wholeIn n [] = []
-  wholeIn n (c ∷ cs) = elim (leb (size c) n) [ true ↦ c ∷ wholeIn (n - size c) cs | false ↦ [] ]
+  unfoldable pub whole_inside : ℕ → List C → List C
+  whole_inside n [] = []
+  whole_inside n (c ∷ cs) = elim (leb (size c) n) [ true ↦ c ∷ whole_inside (n - size c) cs | false ↦ [] ]

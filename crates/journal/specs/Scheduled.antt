@@ -8,7 +8,7 @@ use Rattle.scheduler.specs.Answers.{call}
 use Rattle.scheduler.specs.Lists.{scheduler, after, turned_down}
 use Rattle.scheduler.specs.Demand.{Demand3, seen}
 use Rattle.journal.specs.Types.{Call, State, JournalVerdict, Journal}
-use Rattle.journal.specs.Journals.{Opens, Appended, journalOf, openJournal, append, buffer_after}
+use Rattle.journal.specs.Journals.{Opens, Appended, journal_of, open_journal, append, buffer_after}
 use Rattle.journal.specs.Calls.{calls}
 
 -- in a buffer that begins with a journal's whole part, appending the call answers its end, and what the journal then is
@@ -21,8 +21,8 @@ pub record RecordAppended (part : List ℕ) (end : ℕ) (c : Call) (rest : List 
 -- behind the last whole one. What it has then opens to the state after the call, and with only part of the record
 -- stored to the state before it. It is what appending leaves (16.11)
 pub record StoresRecord (b : List ℕ) (s : State) (end : ℕ) (c : Call) : Type 0 where
-  pub opens : openJournal calls (take end b ++ call_bytes c) ≡ Opens (call s c).state (end + call_size c) 0
-  pub torn : (n : ℕ) → n < call_size c → openJournal calls (take end b ++ take n (call_bytes c)) ≡ Opens s end n
+  pub opens : open_journal calls (take end b ++ call_bytes c) ≡ Opens (call s c).state (end + call_size c) 0
+  pub torn : (n : ℕ) → n < call_size c → open_journal calls (take end b ++ take n (call_bytes c)) ≡ Opens s end n
   pub appends : (rest : List ℕ) → call_size c ≤ length rest → RecordAppended (take end b) end c rest
 
 -- a journal up to an offset, behind its last whole record or before a bad one, holds an admitted sheet and calls that
@@ -36,7 +36,7 @@ pub record HoldsCalls (b : List ℕ) (t : State) (end : ℕ) : Type 0 where
   pub inside : end ≤ length b
   pub admits : read_sheet (take sheet_end b) ≡ admitted first
   pub accepted : turned_down first made ≡ 0
-  pub written : are_bytes b ≡ true → take end b ≡ journalOf calls (take sheet_end b) made
+  pub written : are_bytes b ≡ true → take end b ≡ journal_of calls (take sheet_end b) made
   pub state : t ≡ after scheduler first made
   pub demand3 : Demand3 first.plan (seen scheduler first made) t
   pub hangs : coherent t ≡ true

@@ -15,24 +15,24 @@ use Rattle.members.proofs.Bits.{in_zero}
 
 module _ (p : Plan) (f : Fates) (l : ℕ → Bool) (left : ℕ) (x : ℕ) where
   -- the rule in a place stands and blocks x
-  abbrev pub blocksAt : ℕ → Bool
-  blocksAt i = l i && (bars p f (rule_at p i) x || follows p (in_set left) (rule_at p i) x)
+  abbrev pub blocks_at : ℕ → Bool
+  blocks_at i = l i && (bars p f (rule_at p i) x || follows p (in_set left) (rule_at p i) x)
 
-  pub block_zero : in_set 0 x ≡ any_below 0 blocksAt
+  pub block_zero : in_set 0 x ≡ any_below 0 blocks_at
   unfolding any_below
   block_zero = in_zero x
 
-  module _ (b i : ℕ) (before : in_set b x ≡ any_below i blocksAt) where
-    pub block_skip : l i ≡ false → in_set b x ≡ any_below (i + 1) blocksAt
-    block_skip h = before ∙ sym (any_next i blocksAt ∙ rw h)
+  module _ (b i : ℕ) (before : in_set b x ≡ any_below i blocks_at) where
+    pub block_skip : l i ≡ false → in_set b x ≡ any_below (i + 1) blocks_at
+    block_skip h = before ∙ sym (any_next i blocks_at ∙ rw h)
 
     pub block_next : (n : ℕ) (r : Rule)
         → l i ≡ true
         → rule_at p i ≡ r
         → in_set n x ≡ ((bars p f r x || follows p (in_set left) r x) || in_set b x)
-        → in_set n x ≡ any_below (i + 1) blocksAt
-    block_next n r h is e = e ∙ rw before (sym (any_next i blocksAt ∙ rw (h, is)))
+        → in_set n x ≡ any_below (i + 1) blocks_at
+    block_next n r h is e = e ∙ rw before (sym (any_next i blocks_at ∙ rw (h, is)))
 
     pub block_all : (n : ℕ) → rule_count p ≡ n → i ≤ n → n ≤ i → in_set b x ≡ blocked p l f (in_set left) x
     unfolding blocked
-    block_all n count le ge = before ∙ ap (λ (k : ℕ). any_below k blocksAt) (le_antisymm le ge ∙ sym count)
+    block_all n count le ge = before ∙ ap (λ (k : ℕ). any_below k blocks_at) (le_antisymm le ge ∙ sym count)

@@ -6,7 +6,7 @@ use mathlib.Core.List.{List}
 use mathlib.Core.Path.{◌≡◌, ◌∙◌, ap}
 use lib.ListN.{get_or}
 use Rattle.plan.specs.declared.rule.Rule.TheVariants.{Order}
-use Rattle.plan.specs.Base.{readAt}
+use Rattle.plan.specs.Base.{read_at}
 use Rattle.plan.specs.Plans.{blank_rule, rule_at}
 use Rattle.plan.proofs.Arrays.{read_past}
 use Rattle.members.specs.Prelude.{RuleLine, Plan}
@@ -15,7 +15,7 @@ use Rattle.members.specs.Sets.{unbroken}
 module _ (p : Plan) (rules : List RuleLine) (same : p.rules ≡ rules) (i : ℕ) where
   pub rule_read_lem : i < 16 → rule_at p i ≡ (get_or rules i blank_rule).rule
   rule_read_lem lt =
-      ap (λ (l : List RuleLine). (readAt 16 l i blank_rule).rule) same
+      ap (λ (l : List RuleLine). (read_at 16 l i blank_rule).rule) same
       ∙ ap (λ t. (cond t (get_or rules i blank_rule) blank_rule).rule) (lt-ltb i 16 lt)
 
   pub rule_past : 16 ≤ i → rule_at p i ≡ Order 0 0

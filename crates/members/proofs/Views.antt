@@ -68,23 +68,23 @@ module _ (t : ℕ → Bool) where
 
 -- the tests, over what code reads
 module _ (events : List Event) (standings : List Standing) where
-  abbrev heldIn : ℕ → Bool
-  heldIn x = is_held (fates_of standings x)
+  abbrev held_in : ℕ → Bool
+  held_in x = is_held (fates_of standings x)
 
   abbrev open_in : ℕ → Bool
   open_in x = is_open (fates_of standings x)
 
-  abbrev goneIn : ℕ → Bool
-  goneIn x = is_gone (fates_of standings x)
+  abbrev gone_in : ℕ → Bool
+  gone_in x = is_gone (fates_of standings x)
 
-  abbrev delaysIn : ℕ → Bool
-  delaysIn x = holds_bit 4 (bits_in events x)
+  abbrev delays_in : ℕ → Bool
+  delays_in x = holds_bit 4 (bits_in events x)
 
-  abbrev forcesIn : ℕ → Bool
-  forcesIn x = holds_bit 1 (bits_in events x)
+  abbrev forces_in : ℕ → Bool
+  forces_in x = holds_bit 1 (bits_in events x)
 
-  abbrev refusesIn : ℕ → Bool
-  refusesIn x = holds_bit 2 (bits_in events x)
+  abbrev refuses_in : ℕ → Bool
+  refuses_in x = holds_bit 2 (bits_in events x)
 
   -- in a place
   module _ (x : ℕ) (lt : x < 16) where
@@ -97,23 +97,23 @@ module _ (events : List Event) (standings : List Standing) where
   -- the loop: the sets so far
   pub record Viewed (held comes gone waits forcible refusable e : ℕ) : Type 0 where
     pub within : e ≤ 16
-    pub helds : Upto heldIn held e
+    pub helds : Upto held_in held e
     pub opens : Upto open_in comes e
-    pub gones : Upto goneIn gone e
-    pub delays : Upto delaysIn waits e
-    pub forces : Upto forcesIn forcible e
-    pub refusals : Upto refusesIn refusable e
+    pub gones : Upto gone_in gone e
+    pub delays : Upto delays_in waits e
+    pub forces : Upto forces_in forcible e
+    pub refusals : Upto refuses_in refusable e
 
   pub viewed_none : Viewed 0 0 0 0 0 0 0
   viewed_none =
       record {
         within = omega arith;
-        helds = upto_zero heldIn;
+        helds = upto_zero held_in;
         opens = upto_zero open_in;
-        gones = upto_zero goneIn;
-        delays = upto_zero delaysIn;
-        forces = upto_zero forcesIn;
-        refusals = upto_zero refusesIn;
+        gones = upto_zero gone_in;
+        delays = upto_zero delays_in;
+        forces = upto_zero forces_in;
+        refusals = upto_zero refuses_in;
       }
 
   -- one event more: what code reads and tells of it, and the sets with it
@@ -147,12 +147,12 @@ module _ (events : List Event) (standings : List Standing) where
         let y : bits ≡ bits_in events e = bits_read e lt in
         record {
           within = omega arith;
-          helds = upto_next heldIn held e before.helds held' h lt (is-h ∙ ap is_held x) in-h;
+          helds = upto_next held_in held e before.helds held' h lt (is-h ∙ ap is_held x) in-h;
           opens = upto_next open_in comes e before.opens comes' o lt (is-o ∙ ap is_open x) in-o;
-          gones = upto_next goneIn gone e before.gones gone' g lt (is-g ∙ ap is_gone x) in_g;
-          delays = upto_next delaysIn waits e before.delays waits' w lt (is-w ∙ ap (holds_bit 4) y) in-w;
-          forces = upto_next forcesIn forcible e before.forces forcible' s lt (is-s ∙ ap (holds_bit 1) y) in-s;
-          refusals = upto_next refusesIn refusable e before.refusals refusable' r lt (is-r ∙ ap (holds_bit 2) y) in-r;
+          gones = upto_next gone_in gone e before.gones gone' g lt (is-g ∙ ap is_gone x) in_g;
+          delays = upto_next delays_in waits e before.delays waits' w lt (is-w ∙ ap (holds_bit 4) y) in-w;
+          forces = upto_next forces_in forcible e before.forces forcible' s lt (is-s ∙ ap (holds_bit 1) y) in-s;
+          refusals = upto_next refuses_in refusable e before.refusals refusable' r lt (is-r ∙ ap (holds_bit 2) y) in-r;
         }
 
   -- after it
@@ -162,12 +162,12 @@ module _ (events : List Event) (standings : List Standing) where
       → Tells events standings v
   viewed_all v e s ge =
       record {
-        helds = upto_all heldIn v.held e s.helds ge s.within;
+        helds = upto_all held_in v.held e s.helds ge s.within;
         opens = upto_all open_in v.comes e s.opens ge s.within;
-        gones = upto_all goneIn v.gone e s.gones ge s.within;
-        delays = upto_all delaysIn v.waits e s.delays ge s.within;
-        forces = upto_all forcesIn v.forcible e s.forces ge s.within;
-        refusals = upto_all refusesIn v.refusable e s.refusals ge s.within;
+        gones = upto_all gone_in v.gone e s.gones ge s.within;
+        delays = upto_all delays_in v.waits e s.delays ge s.within;
+        forces = upto_all forces_in v.forcible e s.forces ge s.within;
+        refusals = upto_all refuses_in v.refusable e s.refusals ge s.within;
       }
 
 -- tests of one event
@@ -236,22 +236,22 @@ module _ (events : List Event) (count : ℕ) (standings : List Standing) (v : Fa
         (λ x h. is x ∙ ap₂ (λ a b. a && b) (held_at x h) (declared_at x h) ∙ and_comm (is_held (fates_of standings x)) (ltb x count))
         (λ x ge. ap (λ (f : Fate). ltb x count && is_held f) (fate_past x ge) ∙ and-false (ltb x count))
 
-    abbrev readyIn : ℕ → Bool
-    readyIn x = is_held (fates_of standings x) || (is_open (fates_of standings x) && holds_bit 1 (bits_in events x))
+    abbrev ready_in : ℕ → Bool
+    ready_in x = is_held (fates_of standings x) || (is_open (fates_of standings x) && holds_bit 1 (bits_in events x))
 
     shown_able : (m both : ℕ)
         → ((x : ℕ) → in_set both x ≡ (in_set v.comes x && in_set v.forcible x))
         → ((x : ℕ) → in_set m x ≡ (in_set (bit_or v.held both) x && in_set declared x))
         → (x : ℕ)
-        → in_set m x ≡ (ltb x count && readyIn x)
+        → in_set m x ≡ (ltb x count && ready_in x)
     shown_able m both is-both is =
-        placed m (λ x. ltb x count && readyIn x)
+        placed m (λ x. ltb x count && ready_in x)
         (λ x h.
         is x
         ∙ ap₂ (λ a b. a && b)
         (in_or v.held both x ∙ ap₂ (λ a b. a || b) (held_at x h) (is-both x ∙ ap₂ (λ a b. a && b) (open_at x h) (forces_at x h)))
         (declared_at x h)
-        ∙ and_comm (readyIn x) (ltb x count))
+        ∙ and_comm (ready_in x) (ltb x count))
         (λ x ge.
         ap₂ (λ (f : Fate) (n : ℕ). ltb x count && (is_held f || (is_open f && holds_bit 1 n))) (fate_past x ge) (bits_past x ge)
         ∙ and-false (ltb x count))

@@ -1,6 +1,6 @@
 -- Sets of the sixteen events as the bits of a number.
 use Rattle.members.specs.Prelude.{ℕ, ◌/◌, ◌^◌, Bool, false, not, ◌&&◌, List, Option, none, some, ◌≡◌, bit_and, eqb, ltb, Standing, Event, Plan, View, Facts}
-use Rattle.plan.specs.Base.{readAt}
+use Rattle.plan.specs.Base.{read_at}
 use Rattle.plan.specs.Fates.{Fates, fates_of, is_open, is_held, is_done, is_gone}
 use Rattle.plan.specs.Plans.{blank_event, holds_bit, event_count, forcible, delayable}
 use Rattle.plan.specs.Rules.{unstoppable, ready}
@@ -17,7 +17,7 @@ or_sixteen (some e) = e
 
 -- the rules that an array of marks does not record as broken
 abbrev pub unbroken : List Bool → ℕ → Bool
-unbroken marks i = not (readAt 16 marks i false)
+unbroken marks i = not (read_at 16 marks i false)
 
 -- what the sets of a view say of the events of a plan and their fates
 pub record Shows (p : Plan) (f : Fates) (v : View) : Type 0 where
@@ -31,7 +31,7 @@ pub record Shows (p : Plan) (f : Fates) (v : View) : Type 0 where
 
 -- the attributes in a place of an array of events
 abbrev pub bits_in : List Event → ℕ → ℕ
-bits_in events x = (readAt 16 events x blank_event).attributes
+bits_in events x = (read_at 16 events x blank_event).attributes
 
 -- what sets say of the fates and attributes in the sixteen places of two arrays
 pub record Tells (events : List Event) (standings : List Standing) (v : Facts) : Type 0 where

@@ -1,11 +1,11 @@
 -- The windows in the sixteen places of an array: whether there is one, and what sets say of them at a minute.
 use Rattle.members.specs.Prelude.{ℕ, Bool, ◌&&◌, List, ◌≡◌, ltb, Window, Times}
-use Rattle.plan.specs.Base.{any_below, readAt}
+use Rattle.plan.specs.Base.{any_below, read_at}
 use Rattle.plan.specs.Plans.{blank_window, is_window, allowed_in, over_in}
 use Rattle.members.specs.Sets.{in_set}
 
 abbrev pub window_in : List Window → ℕ → Window
-window_in windows x = readAt 16 windows x blank_window
+window_in windows x = read_at 16 windows x blank_window
 
 -- one of the places has a window
 abbrev pub any_window : List Window → Bool

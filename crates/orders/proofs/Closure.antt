@@ -59,16 +59,16 @@ reckons_or p f m c a (inr t) = rw t (or_right_true (m a))
 
 -- the two ways in which a conditional asks, by which of its triggers is done or to be done
 module _ (p : Plan) (f : Fates) (m : Events) (a b c : ℕ) where
-  abbrev asksBy : ℕ → ℕ → Bool
-  asksBy x y = (m x || is_done (f x)) && (m y || reckoned p f c y)
+  abbrev asks_by : ℕ → ℕ → Bool
+  asks_by x y = (m x || is_done (f x)) && (m y || reckoned p f c y)
 
-  by_both : (x y : ℕ) → Has f m x → Reckons p f m c y → asksBy x y ≡ true
+  by_both : (x y : ℕ) → Has f m x → Reckons p f m c y → asks_by x y ≡ true
   by_both x y t v = and_both (m x || is_done (f x)) (m y || reckoned p f c y) (has_or f m x t) (reckons_or p f m c y v)
 
-  by_first : (x y : ℕ) → asksBy x y ≡ true → Has f m x
+  by_first : (x y : ℕ) → asks_by x y ≡ true → Has f m x
   by_first x y h = or_either (m x) (is_done (f x)) (and_left (m x || is_done (f x)) (m y || reckoned p f c y) h)
 
-  by_second : (x y : ℕ) → asksBy x y ≡ true → Reckons p f m c y
+  by_second : (x y : ℕ) → asks_by x y ≡ true → Reckons p f m c y
   by_second x y h = or_either (m y) (reckoned p f c y) (and_right (m x || is_done (f x)) (m y || reckoned p f c y) h)
 
 pub wants_asks : (p : Plan) (f : Fates) (m : Events) (r : Rule) → Wants p f m r → asks p f m r ≡ true
@@ -76,9 +76,9 @@ unfolding asks
 wants_asks p f m r (first {b = b} t d u) = rw (t, d)
 wants_asks p f m r (one {a = a} t u) = has_or f m a t
 wants_asks p f m r (both {a = a} {b = b} {c = c} t v u) =
-    ap (λ (x : Bool). x || asksBy p f m a b c b a) (by_both p f m a b c a b t v)
+    ap (λ (x : Bool). x || asks_by p f m a b c b a) (by_both p f m a b c a b t v)
 wants_asks p f m r (turned {a = a} {b = b} {c = c} t v u) =
-    ap (λ (x : Bool). asksBy p f m a b c a b || x) (by_both p f m a b c b a t v) ∙ or_right_true (asksBy p f m a b c a b)
+    ap (λ (x : Bool). asks_by p f m a b c a b || x) (by_both p f m a b c b a t v) ∙ or_right_true (asks_by p f m a b c a b)
 
 pub asks_wants : (p : Plan) (f : Fates) (m : Events) (r : Rule)
     → asks p f m r ≡ true
@@ -87,7 +87,7 @@ pub asks_wants : (p : Plan) (f : Fates) (m : Events) (r : Rule)
 unfolding asks
 asks_wants p f m (Order a b) h u = first (and_left (m b) (delayable p b) h) (and_right (m b) (delayable p b) h) u
 asks_wants p f m (Need a b) h u = one (or_either (m a) (is_done (f a)) h) u
-asks_wants p f m (Conditional a b c) h u = elim (or_either (asksBy p f m a b c a b) (asksBy p f m a b c b a) h) [
+asks_wants p f m (Conditional a b c) h u = elim (or_either (asks_by p f m a b c a b) (asks_by p f m a b c b a) h) [
   | inl t ↦ both (by_first p f m a b c a b t) (by_second p f m a b c a b t) u
   | inr t ↦ turned (by_first p f m a b c b a t) (by_second p f m a b c b a t) u
 ]

@@ -10,7 +10,7 @@ use lib.ListN.{get_or}
 use Rattle.plan.specs.Prelude.{Fate, Open, Held, Done, Refused, Lapsed, Forced, Entry}
 use Rattle.plan.specs.Prelude.{Rule, Order, Need, Conditional, Plan}
 use Rattle.plan.specs.Base.{any_below, all_below, count_below, those_below, among, when, first_of, tabulate, lowest}
-use Rattle.plan.specs.Base.{readAt, storeAt}
+use Rattle.plan.specs.Base.{read_at, store_at}
 use Rattle.plan.specs.Fates.{Fates, is_open, is_held, is_done, is_gone, is_settled, done_as, fate_number}
 use Rattle.plan.specs.Plans.{empty_plan, has_event, allowed_at, over_at, allowed_in, over_in}
 use Rattle.plan.specs.Rules.{named, enforceable, bad_window, sound_window, sound_windows, sound_event, sound_rule, unstoppable, reckoned, triggered, bars, makes_wait, forbids, owes, ready}
@@ -39,8 +39,8 @@ pub basic :
     × (map (λ n. lowest n (ltb 4)) (5 ∷ 6 ∷ 8 ∷ []) ≡ none ∷ some 5 ∷ some 5 ∷ [])
     × (first_of 4 3 (λ i. when (ltb 4 i) (some (eqb i 5))) ≡ some true)
     × (tabulate 3 4 (λ i. i) ≡ 4 ∷ 5 ∷ 6 ∷ [])
-    × (map (λ i. readAt 2 below8 (suc i) 9) (0 ∷ 1 ∷ []) ≡ 1 ∷ 9 ∷ [])
-    × (map (λ i. storeAt {A = ℕ} 2 (0 ∷ 0 ∷ 0 ∷ []) i 9) (1 ∷ 2 ∷ []) ≡ (0 ∷ 9 ∷ 0 ∷ []) ∷ (0 ∷ 0 ∷ 0 ∷ []) ∷ [])
+    × (map (λ i. read_at 2 below8 (suc i) 9) (0 ∷ 1 ∷ []) ≡ 1 ∷ 9 ∷ [])
+    × (map (λ i. store_at {A = ℕ} 2 (0 ∷ 0 ∷ 0 ∷ []) i 9) (1 ∷ 2 ∷ []) ≡ (0 ∷ 9 ∷ 0 ∷ []) ∷ (0 ∷ 0 ∷ 0 ∷ []) ∷ [])
     × (those is_open fates ++ those is_held fates ++ those is_done fates ≡ Open ∷ Held ∷ Done ∷ Forced ∷ [])
     × (those is_gone fates ++ those is_settled fates ≡ Refused ∷ Lapsed ∷ Done ∷ Refused ∷ Lapsed ∷ Forced ∷ [])
     × (map done_as (true ∷ false ∷ []) ≡ Forced ∷ Done ∷ [])

@@ -7,7 +7,7 @@ use mathlib.Core.Path.{◌≡◌, sym, ◌∙◌, ap}
 use lib.Dec.{eqb, ltb}
 use lib.ListN.{get_or}
 use Rattle.plan.specs.Prelude.{Event, Rule, Order, Need, Conditional, Plan}
-use Rattle.plan.specs.Base.{readAt}
+use Rattle.plan.specs.Base.{read_at}
 use Rattle.plan.specs.Plans.{blank_event, attributes_of, holds_bit, forcible, rejectable, delayable}
 use Rattle.plan.specs.Rules.{named, enforceable}
 use Rattle.plan.proofs.Arrays.{read_in, read_past}
@@ -16,11 +16,11 @@ use Rattle.plan.proofs.Tests.{and_left, and_right}
 module _ (p : Plan) where
   -- bit k of the plan's event e, where the code read the attributes x in the array, or took 0 past its places, and r in x
   module _ (events : List Event) (same : p.events ≡ events) (k e x : ℕ) (r : Bool) (bit : r ≡ holds_bit k x) where
-    attributes_read : (readAt 16 events e blank_event).attributes ≡ x → r ≡ holds_bit k (attributes_of p e)
+    attributes_read : (read_at 16 events e blank_event).attributes ≡ x → r ≡ holds_bit k (attributes_of p e)
     attributes_read read =
         bit
         ∙ ap (holds_bit k) (sym read)
-        ∙ ap (λ (l : List Event). holds_bit k (readAt 16 l e blank_event).attributes) (sym same)
+        ∙ ap (λ (l : List Event). holds_bit k (read_at 16 l e blank_event).attributes) (sym same)
 
     pub bit_in : e < 16 → x ≡ (get_or events e blank_event).attributes → r ≡ holds_bit k (attributes_of p e)
     bit_in lt is =

@@ -7,15 +7,15 @@ use mathlib.Core.List.{List}
 use mathlib.Core.Path.{◌≡◌, sym, ◌∙◌, ap}
 use lib.Dec.{eqb}
 use Rattle.plan.specs.Prelude.{Event, Plan}
-use Rattle.plan.specs.Base.{any_below, readAt}
+use Rattle.plan.specs.Base.{any_below, read_at}
 use Rattle.plan.specs.Plans.{blank_event, event_count, step_of, has_event}
 use Rattle.plan.proofs.Loops.{some_hit, none_all}
 
 abbrev pub step_in : List Event → ℕ → ℕ → Bool
-step_in events k e = eqb (readAt 16 events e blank_event).step k
+step_in events k e = eqb (read_at 16 events e blank_event).step k
 
 -- what the code reads of it decides the test
-module _ (events : List Event) (k e : ℕ) (v : Event) (read : v ≡ readAt 16 events e blank_event) where
+module _ (events : List Event) (k e : ℕ) (v : Event) (read : v ≡ read_at 16 events e blank_event) where
   pub step_hit : v.step ≡ k → step_in events k e ≡ true
   step_hit h = ap (λ (w : Event). eqb w.step k) (sym read) ∙ eq-eqb v.step k h
 
@@ -25,7 +25,7 @@ module _ (events : List Event) (k e : ℕ) (v : Event) (read : v ≡ readAt 16 e
 -- a loop over the events of a plan with this array and count, at its ends
 module _ (events : List Event) (count k e : ℕ) (p : Plan) (same : p.events ≡ events) (many : event_count p ≡ count) where
   alike : (i : ℕ) → step_in events k i ≡ eqb (step_of p i) k
-  alike i = ap (λ (l : List Event). eqb (readAt 16 l i blank_event).step k) (sym same)
+  alike i = ap (λ (l : List Event). eqb (read_at 16 l i blank_event).step k) (sym same)
 
   pub has_some : e < count → step_in events k e ≡ true → true ≡ has_event p k
   unfolding has_event

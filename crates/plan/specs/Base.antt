@@ -53,12 +53,12 @@ module _ {A : Type 0} where
 
   -- element i of an array of n elements, or the default if i is past its end. The bound is tested, so that nothing has
   -- to be known of the list's length
-  abbrev pub readAt : ℕ → List A → ℕ → A → A
-  readAt n l i d = cond (ltb i n) (get_or l i d) d
+  abbrev pub read_at : ℕ → List A → ℕ → A → A
+  read_at n l i d = cond (ltb i n) (get_or l i d) d
 
   -- the array with a stored at i, or unchanged if i is past its end
-  abbrev pub storeAt : ℕ → List A → ℕ → A → List A
-  storeAt n l i a = cond (ltb i n) (set l i a) l
+  abbrev pub store_at : ℕ → List A → ℕ → A → List A
+  store_at n l i a = cond (ltb i n) (set l i a) l
 
 -- the lowest i < n that passes the test
 unfoldable pub lowest : ℕ → (ℕ → Bool) → Option ℕ

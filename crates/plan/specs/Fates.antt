@@ -1,6 +1,6 @@
 -- Fates, and the array that holds one for each event.
 use Rattle.plan.specs.Prelude.{ℕ, Bool, true, false, ◌||◌, List, eqb, Fate, Open, Held, Done, Refused, Lapsed, Forced, Standing}
-use Rattle.plan.specs.Base.{readAt}
+use Rattle.plan.specs.Base.{read_at}
 
 -- the fate is open (5.1)
 abbrev pub is_open : Fate → Bool
@@ -44,4 +44,4 @@ Fates = ℕ → Fate
 
 -- the fates that an array holds (5.4)
 abbrev pub fates_of : List Standing → Fates
-fates_of l e = (readAt 16 l e blank_standing).fate
+fates_of l e = (read_at 16 l e blank_standing).fate

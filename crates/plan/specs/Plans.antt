@@ -1,6 +1,6 @@
 -- What a sheet declares: events with their step and attributes, rules, and windows.
 use Rattle.plan.specs.Prelude.{ℕ, ◌/◌, ◌%◌, Bool, not, ◌&&◌, ◌||◌, eqb, ltb, leb, replicate, Event, Rule, Order, RuleLine, Window, Plan}
-use Rattle.plan.specs.Base.{any_below, readAt}
+use Rattle.plan.specs.Base.{any_below, read_at}
 
 -- what an unused place holds
 abbrev pub blank_event : Event
@@ -30,7 +30,7 @@ abbrev pub rule_count : Plan → ℕ
 rule_count p = p.rule_count
 
 abbrev pub event_at : Plan → ℕ → Event
-event_at p e = readAt 16 p.events e blank_event
+event_at p e = read_at 16 p.events e blank_event
 
 abbrev pub step_of : Plan → ℕ → ℕ
 step_of p e = (event_at p e).step
@@ -39,10 +39,10 @@ abbrev pub attributes_of : Plan → ℕ → ℕ
 attributes_of p e = (event_at p e).attributes
 
 abbrev pub rule_at : Plan → ℕ → Rule
-rule_at p i = (readAt 16 p.rules i blank_rule).rule
+rule_at p i = (read_at 16 p.rules i blank_rule).rule
 
 abbrev pub window_at : Plan → ℕ → Window
-window_at p e = readAt 16 p.windows e blank_window
+window_at p e = read_at 16 p.windows e blank_window
 
 abbrev pub from_of : Plan → ℕ → ℕ
 from_of p e = (window_at p e).from

@@ -1,6 +1,6 @@
 -- A sheet's records: their bytes, what they declare, and the tests that turn them down.
 use Rattle.plan.specs.Prelude.{ℕ, ◌+◌, ◌*◌, Bool, true, false, not, ◌&&◌, ◌||◌, List, [], ◌∷◌, Option, eqb, ltb, leb, get_or, Rule, Order, Need, Conditional, Plan, Record, SheetFault, Cut, BadKind, Full, BadStep, BadAttributes, BadNames, Unenforceable, BadWindow}
-use Rattle.plan.specs.Base.{storeAt}
+use Rattle.plan.specs.Base.{store_at}
 use Rattle.plan.specs.Plans.{event_count, rule_count}
 use Rattle.plan.specs.Rules.{bad_step, bad_attributes, bad_window, named, enforceable}
 use Rattle.plan.specs.Faults.{first_fault}
@@ -58,7 +58,7 @@ rule_of r = elim (eqb r.kind 2) [
 -- adds an event, which gets the next number (2.2)
 unfoldable pub add_event : Plan → ℕ → ℕ → Plan
 add_event p k a = record {
-  events = storeAt 16 p.events (event_count p) (record { step = k; attributes = a });
+  events = store_at 16 p.events (event_count p) (record { step = k; attributes = a });
   event_count = event_count p + 1;
   rules = p.rules;
   rule_count = rule_count p;
@@ -70,7 +70,7 @@ unfoldable pub add_rule : Plan → Rule → Plan
 add_rule p r = record {
   events = p.events;
   event_count = event_count p;
-  rules = storeAt 16 p.rules (rule_count p) (record { rule = r });
+  rules = store_at 16 p.rules (rule_count p) (record { rule = r });
   rule_count = rule_count p + 1;
   windows = p.windows;
 }
@@ -82,7 +82,7 @@ add_window p e from until = record {
   event_count = event_count p;
   rules = p.rules;
   rule_count = rule_count p;
-  windows = storeAt 16 p.windows e (record { from = from; until = until });
+  windows = store_at 16 p.windows e (record { from = from; until = until });
 }
 
 -- the attributes of start, prepare, commit and abort (2.9)

@@ -1,7 +1,7 @@
 -- What the readers of a state answer. An event, a rule or a line is declared if its number is below its count and below
 -- 16, a step if it is at most 7. An undeclared number has an answer of its own, which is not "open".
 use Rattle.std.specs.Prelude.{ℕ, Bool, ◌&&◌, cond, ltb}
-use Rattle.plan.specs.Base.{readAt}
+use Rattle.plan.specs.Base.{read_at}
 use Rattle.plan.specs.Plans.{event_count, rule_count, event_at, rule_at}
 use Rattle.plan.specs.Histories.{blank_entry}
 use Rattle.scheduler.specs.State.{line_count, fate_of, closed_at, broken_at}
@@ -34,7 +34,7 @@ rule_read s i =
 -- a line of the history (5.8)
 unfoldable pub line_read : State → ℕ → EntryRead
 line_read s n =
-    cond (declared_below (line_count s) n) (EntryRead.Is (readAt 16 s.history n blank_entry)) EntryRead.Undeclared
+    cond (declared_below (line_count s) n) (EntryRead.Is (read_at 16 s.history n blank_entry)) EntryRead.Undeclared
 
 abbrev pub mark_of : Bool → Mark
 mark_of b = cond b Mark.Yes Mark.No

@@ -17,9 +17,9 @@ use Rattle.scheduler.specs.Answers.{call_fault, call}
 use Rattle.theory.proofs.Coherence.{fault_answer, answer_fault}
 use Rattle.recorder.specs.Types.{Call, CallFault, SheetFault, Faulty, Answer, State, Reply, CallRecord, Asked, Wanted, Wrong, JournalVerdict, Journal, AppendAnswer, AppendReply}
 use Rattle.journal.specs.Records.{size}
-use Rattle.journal.specs.Journals.{Opening, Opens, Broken, Unread, Appending, Appended, TooLong, BadSheet, BadRecord, TurnedDown, NoRoom, overwritten, openJournal, room_for, appendTo, append, written_by, buffer_after}
+use Rattle.journal.specs.Journals.{Opening, Opens, Broken, Unread, Appending, Appended, TooLong, BadSheet, BadRecord, TurnedDown, NoRoom, overwritten, open_journal, room_for, append_to, append, written_by, buffer_after}
 use Rattle.journal.specs.Calls.{calls, record_of}
-use Rattle.journal.specs.Answers.{journal_read, journal_number, journal_offset, append_answer, reply_of, refusal_of, askedReply, bufferAsked}
+use Rattle.journal.specs.Answers.{journal_read, journal_number, journal_offset, append_answer, reply_of, refusal_of, asked_reply, buffer_asked}
 use Rattle.journal.proofs.CallLaws.{lawful, size_same}
 use Rattle.journal.proofs.Openings.{end_inside}
 use Rattle.journal.proofs.Appends.{append_long, append_inside, to_refused}
@@ -70,9 +70,9 @@ module _ (b : List ℕ) (end : ℕ) (c : Call) (inside : end ≤ length b) (r : 
 
 -- the call
 module _ (s : State) (c : Call) (room end : ℕ) where
-  to_room : (left : ℕ) → call_fault s c ≡ none → appendTo calls room c (Opens s end left) ≡ room_for calls room end c
-  unfolding appendTo
-  to_room left h = rw (h, appendTo)
+  to_room : (left : ℕ) → call_fault s c ≡ none → append_to calls room c (Opens s end left) ≡ room_for calls room end c
+  unfolding append_to
+  to_room left h = rw (h, append_to)
 
 not_turned : (s : State) (c : Call) → is_turned_down (call s c).answer ≡ false → call_fault s c ≡ none
 not_turned s c h = go (call_fault s c) refl
@@ -84,7 +84,7 @@ not_turned s c h = go (call_fault s c) refl
 
 module _ (b : List ℕ) (end : ℕ) (s : State) (c : Call) (r : Reply) (is : r ≡ call s c) where
   abbrev to : Appending CallFault
-  to = appendTo calls (length b) c (Opens s end 0)
+  to = append_to calls (length b) c (Opens s end 0)
 
   pub is_taken : (x : AppendAnswer) (after : List ℕ)
       → is_turned_down r.answer ≡ false
@@ -148,37 +148,37 @@ module _ (b : List ℕ) (len : ℕ) (c : Call) where
   unfolding written_by
   too_long h = says_same {a = TooLong} (record { answer = refl; bytes = refl }) (append_long calls b len c (lt-ltb (length b) len h))
 
-  module _ (stated : len ≤ length b) (j : Journal) (is : j ≡ journal_read (openJournal calls (take len b))) where
-    told : (o : Opening State) → openJournal calls (take len b) ≡ o → append calls b len c ≡ appendTo calls (length b) c o
-    told o e = append_inside calls b len c (le-ltb (length b) len stated) ∙ ap (appendTo calls (length b) c) e
+  module _ (stated : len ≤ length b) (j : Journal) (is : j ≡ journal_read (open_journal calls (take len b))) where
+    told : (o : Opening State) → open_journal calls (take len b) ≡ o → append calls b len c ≡ append_to calls (length b) c o
+    told o e = append_inside calls b len c (le-ltb (length b) len stated) ∙ ap (append_to calls (length b) c) e
 
     pub opens_inside : (end left : ℕ) → j.verdict ≡ JournalVerdict.Opened end left → end ≤ length b
     opens_inside end left h =
-        omega (arith, end_inside calls lawful (take len b) j.state end left (was_opened (openJournal calls (take len b)) j is end left h), length-take-le len b stated)
+        omega (arith, end_inside calls lawful (take len b) j.state end left (was_opened (open_journal calls (take len b)) j is end left h), length-take-le len b stated)
 
     pub is_opened : (end left : ℕ) (r : AppendAnswer) (after : List ℕ)
         → j.verdict ≡ JournalVerdict.Opened end left
-        → Says b c (appendTo calls (length b) c (Opens j.state end 0)) r after
+        → Says b c (append_to calls (length b) c (Opens j.state end 0)) r after
         → Says b c (append calls b len c) r after
-    unfolding appendTo
+    unfolding append_to
     is_opened end left r after h said =
-        let e : append calls b len c ≡ appendTo calls (length b) c (Opens j.state end 0) =
-        told (Opens j.state end left) (was_opened (openJournal calls (take len b)) j is end left h) in
+        let e : append calls b len c ≡ append_to calls (length b) c (Opens j.state end 0) =
+        told (Opens j.state end left) (was_opened (open_journal calls (take len b)) j is end left h) in
         says_same said e
 
     pub is_broken : (at : ℕ) → j.verdict ≡ JournalVerdict.Broken at → Says b c (append calls b len c) (AppendAnswer.BadRecord at) b
-    unfolding appendTo written_by
+    unfolding append_to written_by
     is_broken at h =
         let e : append calls b len c ≡ BadRecord at =
-        told (Broken j.state at) (was_broken (openJournal calls (take len b)) j is at h) in
+        told (Broken j.state at) (was_broken (open_journal calls (take len b)) j is at h) in
         record { answer = ap append_answer (sym e); bytes = ap (written_by calls b c) (sym e) }
 
     pub is_unread : (f : SheetFault) (at : ℕ)
         → j.verdict ≡ JournalVerdict.Unread f at
         → Says b c (append calls b len c) (AppendAnswer.BadSheet f at) b
-    unfolding appendTo written_by
+    unfolding append_to written_by
     is_unread f at h =
-        let e : append calls b len c ≡ BadSheet f at = told (Unread f at) (was_unread (openJournal calls (take len b)) j is f at h) in
+        let e : append calls b len c ≡ BadSheet f at = told (Unread f at) (was_unread (open_journal calls (take len b)) j is f at h) in
         record { answer = ap append_answer (sym e); bytes = ap (written_by calls b c) (sym e) }
 
 -- the number of what is no call
@@ -199,8 +199,8 @@ module _ (n len at first : ℕ) (v : JournalVerdict) (place : at ≡ journal_off
 
 -- what a host asks for
 pub record Replies (b : List ℕ) (len : ℕ) (q : Asked) (r : AppendReply) (after : List ℕ) : Type 0 where
-  pub reply : r ≡ askedReply b len q
-  pub bytes : after ≡ bufferAsked b len q
+  pub reply : r ≡ asked_reply b len q
+  pub bytes : after ≡ buffer_asked b len q
 
 module _ (b : List ℕ) (len : ℕ) (q : Asked) (r : AppendReply) where
   pub asked_call_lem : (c : Call) (a : AppendAnswer) (after : List ℕ)
@@ -209,35 +209,35 @@ module _ (b : List ℕ) (len : ℕ) (q : Asked) (r : AppendReply) where
       → after ≡ buffer_after calls b len c
       → r ≡ reply_of len a
       → Replies b len q r after
-  unfolding askedReply bufferAsked
+  unfolding asked_reply buffer_asked
   asked_call_lem c a after h e f g = record {
-    reply = g ∙ ap (reply_of len) e ∙ sym (ap (askedReply b len) h);
-    bytes = f ∙ sym (ap (bufferAsked b len) h);
+    reply = g ∙ ap (reply_of len) e ∙ sym (ap (asked_reply b len) h);
+    bytes = f ∙ sym (ap (buffer_asked b len) h);
   }
 
   module _ (n : ℕ) (h : q ≡ Wrong n) where
-    same_buffer : b ≡ bufferAsked b len q
-    unfolding bufferAsked
-    same_buffer = sym (ap (bufferAsked b len) h)
+    same_buffer : b ≡ buffer_asked b len q
+    unfolding buffer_asked
+    same_buffer = sym (ap (buffer_asked b len) h)
 
     pub wrong_long : length b < len → r ≡ reply_of len AppendAnswer.TooLong → Replies b len q r b
-    unfolding askedReply
+    unfolding asked_reply
     wrong_long l g = record {
-      reply = g ∙ sym (ap (askedReply b len) h ∙ rw (lt-ltb (length b) len l, cond));
+      reply = g ∙ sym (ap (asked_reply b len) h ∙ rw (lt-ltb (length b) len l, cond));
       bytes = same_buffer;
     }
 
     pub wrong_inside : (j : Journal)
         → len ≤ length b
-        → j ≡ journal_read (openJournal calls (take len b))
+        → j ≡ journal_read (open_journal calls (take len b))
         → r ≡ refusal_of n len j.verdict
         → Replies b len q r b
-    unfolding askedReply
+    unfolding asked_reply
     wrong_inside j l e g = record {
       reply =
           g
           ∙ ap (λ (x : Journal). refusal_of n len x.verdict) e
-          ∙ sym (ap (askedReply b len) h ∙ rw (le-ltb (length b) len l, cond));
+          ∙ sym (ap (asked_reply b len) h ∙ rw (le-ltb (length b) len l, cond));
       bytes = same_buffer;
     }
 

@@ -26,7 +26,7 @@ use Rattle.theory.proofs.Coherence.{call_coherent, sized_call}
 use Rattle.theory.proofs.Demands.{admitted_coherent}
 use Rattle.recorder.specs.Types.{Plan, Call, Submit, Finish, CallRead, Listed, SheetFault, Extra, Cut, BadKind, Full, BadStep, BadAttributes, BadNames, Unenforceable, BadWindow, Verdict, Admitted, Faulty, State, Reading, Reply, RecordRead, JournalVerdict, Journal}
 use Rattle.journal.specs.Records.{Front, Whole, Short, Other, stopped, size, front, run}
-use Rattle.journal.specs.Journals.{Opening, Opens, Broken, Unread, opened_at, openJournal}
+use Rattle.journal.specs.Journals.{Opening, Opens, Broken, Unread, opened_at, open_journal}
 use Rattle.journal.specs.Calls.{calls}
 use Rattle.journal.specs.Answers.{record_read, journal_read}
 use Rattle.journal.proofs.Fronts.{whole_inside}
@@ -224,18 +224,18 @@ same_offset {f} {g} {m} {n} h = cc
 module _ (b : List ℕ) (r : Reading) (is : r ≡ read_sheet b) where
   -- a sheet alone
   pub sheet_alone : r.verdict ≡ Admitted
-      → record { verdict = JournalVerdict.Opened (length b) 0; state = r.state } ≡ journal_read (openJournal calls b)
+      → record { verdict = JournalVerdict.Opened (length b) 0; state = r.state } ≡ journal_read (open_journal calls b)
   unfolding front
   sheet_alone h = go (front_is b)
     where
-      go : FrontIs b → record { verdict = JournalVerdict.Opened (length b) 0; state = r.state } ≡ journal_read (openJournal calls b)
+      go : FrontIs b → record { verdict = JournalVerdict.Opened (length b) 0; state = r.state } ≡ journal_read (open_journal calls b)
       go (followed p at q e) = absurd (not_both (sym h ∙ verdict_of_lem (is ∙ e)))
       go (bad f at q ne e) = absurd (not_both (sym h ∙ verdict_of_lem (is ∙ e)))
       go (alone p q e) =
           let n = length b in
           let t = first_state p in
           let none : drop n b ≡ [] = drop_of_length-le b {i = n} (omega arith) in
-          let opens : openJournal calls b ≡ Opens t n 0 =
+          let opens : open_journal calls b ≡ Opens t n 0 =
           open_whole calls b p n q
           ∙ ap (λ (l : List ℕ). opened_at n n (run calls t l)) none
           ∙ ap (opened_at n n) (run_short calls lawful t [] refl)
@@ -259,10 +259,10 @@ module _ (b : List ℕ) (r : Reading) (is : r ≡ read_sheet b) where
     pub sheet_bad : (n : ℕ)
         → n ≡ sheet_fault_number f
         → (n ≡ 8 → ⊥)
-        → record { verdict = JournalVerdict.Unread f at; state = r.state } ≡ journal_read (openJournal calls b)
+        → record { verdict = JournalVerdict.Unread f at; state = r.state } ≡ journal_read (open_journal calls b)
     sheet_bad n k other = go (front_is b)
       where
-        go : FrontIs b → record { verdict = JournalVerdict.Unread f at; state = r.state } ≡ journal_read (openJournal calls b)
+        go : FrontIs b → record { verdict = JournalVerdict.Unread f at; state = r.state } ≡ journal_read (open_journal calls b)
         go (alone p q e) = absurd (not_both (sym (verdict_of_lem (is ∙ e)) ∙ h))
         go (followed p m q e) =
             absurd (other (k ∙ ap sheet_fault_number (sym (same_fault (sym (verdict_of_lem (is ∙ e)) ∙ h)))))
@@ -307,7 +307,7 @@ module _ (b : List ℕ) (end : ℕ) (pre : (p : Plan) × (read_plan b ≡ whole 
 
     pub opens_rest : (j : Journal)
         → j ≡ journal_read (opened_at end (length b) (run calls r.state (drop end b)))
-        → j ≡ journal_read (openJournal calls b)
+        → j ≡ journal_read (open_journal calls b)
     opens_rest j e =
         e
         ∙ ap (λ (t : State). journal_read (opened_at end (length b) (run calls t (drop end b)))) (state_of_lem (is ∙ reads))

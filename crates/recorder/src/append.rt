@@ -1,9 +1,9 @@
 // Appending a call's record to a journal in a lent buffer.
 ghost use Rattle.std.specs.Prelude.{◌+◌, ◌≤◌, ◌≡◌, length, take};
 ghost use Rattle.plan.specs.Calls.{call_bytes, call_size};
-ghost use Rattle.journal.specs.Journals.{Opens, overwritten, room_for, appendTo, append, written_by, buffer_after};
+ghost use Rattle.journal.specs.Journals.{Opens, overwritten, room_for, append_to, append, written_by, buffer_after};
 ghost use Rattle.journal.specs.Calls.{calls};
-ghost use Rattle.journal.specs.Answers.{append_answer, reply_of, refusal_of, askedReply, bufferAsked};
+ghost use Rattle.journal.specs.Answers.{append_answer, reply_of, refusal_of, asked_reply, buffer_asked};
 
 use super::open::{journal_number, journal_offset, open_journal};
 use super::record::record_of;
@@ -36,8 +36,8 @@ pub fn append(buffer: &mut [u8], len: usize, made: Call) -> AppendAnswer
 
 // Appends what a host asks for. What is no call is turned down where a call would be.
 pub fn append_asked(buffer: &mut [u8], len: usize, asked: Asked) -> AppendReply
-    ensures reply { result ≡ askedReply buffer.old len asked }
-    ensures bytes { buffer.new ≡ bufferAsked buffer.old len asked }
+    ensures reply { result ≡ asked_reply buffer.old len asked }
+    ensures bytes { buffer.new ≡ buffer_asked buffer.old len asked }
 {
     match asked {
         Asked::Wanted(made) => {
@@ -112,8 +112,8 @@ fn refusal_of(number: u8, len: usize, verdict: JournalVerdict) -> AppendReply
 // Appends behind an offset, if the state there accepts the call.
 fn append_behind(buffer: &mut [u8], end: usize, state: State, made: Call) -> AppendAnswer
     requires { end ≤ length buffer.old }
-    ensures answer { result ≡ append_answer (appendTo calls (length buffer.old) made (Opens state end 0)) }
-    ensures bytes { buffer.new ≡ written_by calls buffer.old made (appendTo calls (length buffer.old) made (Opens state end 0)) }
+    ensures answer { result ≡ append_answer (append_to calls (length buffer.old) made (Opens state end 0)) }
+    ensures bytes { buffer.new ≡ written_by calls buffer.old made (append_to calls (length buffer.old) made (Opens state end 0)) }
 {
     let reply = state.call(made);
     let answer = reply.answer;

@@ -5,7 +5,7 @@ ghost use Rattle.plan.specs.Sheets.{whole, read_plan};
 ghost use Rattle.scheduler.specs.declared.state.State.{State};
 ghost use Rattle.scheduler.specs.Coherent.{coherent};
 ghost use Rattle.journal.specs.Records.{run};
-ghost use Rattle.journal.specs.Journals.{opened_at, openJournal};
+ghost use Rattle.journal.specs.Journals.{opened_at, open_journal};
 ghost use Rattle.journal.specs.Calls.{calls};
 ghost use Rattle.journal.specs.Answers.{journal_read, journal_number, journal_offset, journal_left};
 ghost use Rattle.journal.specs.Scheduled.{JournalHolds};
@@ -26,7 +26,7 @@ use sheet::read::read_sheet;
 // Reads the sheet at the front, and makes the calls of the records behind it. The guarantee (demand 3) is true of the
 // calls that the journal holds, and number 12 does not apply to the state after them.
 pub fn open_journal(bytes: &[u8]) -> Journal
-    ensures result { result ≡ journal_read (openJournal calls bytes.now) }
+    ensures result { result ≡ journal_read (open_journal calls bytes.now) }
     ensures holds { JournalHolds bytes.now result }
 {
     let end = sheet_end(bytes);
@@ -94,7 +94,7 @@ fn sheet_end(bytes: &[u8]) -> usize
 
 // Opens any journal: it is read as a sheet, and number 8 says that records follow a sheet that is whole.
 fn open_other(bytes: &[u8]) -> Journal
-    ensures { result ≡ journal_read (openJournal calls bytes.now) }
+    ensures { result ≡ journal_read (open_journal calls bytes.now) }
 {
     let reading = read_sheet(bytes);
     let verdict = reading.verdict;
@@ -119,7 +119,7 @@ fn open_other(bytes: &[u8]) -> Journal
 // Opens a journal whose sheet is whole and ends at an offset.
 fn open_behind(bytes: &[u8], end: usize) -> Journal
     requires { (p : Plan) × (read_plan bytes.now ≡ whole p end) }
-    ensures { result ≡ journal_read (openJournal calls bytes.now) }
+    ensures { result ≡ journal_read (open_journal calls bytes.now) }
 {
     let reading = read_sheet(&bytes[..end]);
     let state = reading.state;

@@ -12,7 +12,7 @@ use mathlib.Core.Path.{◌≡◌, refl, sym, ◌∙◌, ap}
 use lib.Dec.{eqb, ltb}
 use lib.ListN.{get_or}
 use Rattle.scheduler.specs.Prelude.{Fate, Done, Lapsed, Event, Standing, Rule, Plan, State}
-use Rattle.plan.specs.Base.{any_below, readAt}
+use Rattle.plan.specs.Base.{any_below, read_at}
 use Rattle.plan.specs.Fates.{is_open, blank_standing, fates_of}
 use Rattle.plan.specs.Plans.{blank_event, event_count, rule_count, step_of, rule_at, has_event}
 use Rattle.plan.specs.Rules.{forbids, owes}
@@ -160,28 +160,28 @@ lapse_start s k n = record {
 }
 
 module _ {events : List Event} {standings : List Standing} {k n : ℕ} {s : State} {e : ℕ} {t : State} (l : Lapsing events standings k n s e t) where
-  abbrev lapsesHere : Bool
-  lapsesHere = is_open (fate_of t e) && eqb (step_of t.plan e) k
+  abbrev lapses_here : Bool
+  lapses_here = is_open (fate_of t e) && eqb (step_of t.plan e) k
 
   -- the test by what the code reads, and past the places
   pub lapse_read : (o is : Bool)
       → e < 16
       → o ≡ is_open (get_or standings e blank_standing).fate
       → is ≡ (o && eqb (get_or events e blank_event).step k)
-      → is ≡ lapsesHere
+      → is ≡ lapses_here
   lapse_read o is lt tells h =
       h
       ∙ ap (λ (b : Bool). b && eqb (get_or events e blank_event).step k) (tells ∙ ap (λ (v : Standing). is_open v.fate) (sym (read_in 16 standings e blank_standing lt)) ∙ ap is_open (sym (l.fates_same e (omega arith))))
       ∙ ap (λ (v : Event). is_open (fate_of t e) && eqb v.step k) (sym (read_in 16 events e blank_event lt))
-      ∙ ap (λ (v : List Event). is_open (fate_of t e) && eqb (readAt 16 v e blank_event).step k) (sym l.events_same)
+      ∙ ap (λ (v : List Event). is_open (fate_of t e) && eqb (read_at 16 v e blank_event).step k) (sym l.events_same)
 
-  pub lapse_past : (is : Bool) → 16 ≤ e → is ≡ eqb 0 k → is ≡ lapsesHere
+  pub lapse_past : (is : Bool) → 16 ≤ e → is ≡ eqb 0 k → is ≡ lapses_here
   lapse_past is ge h =
       h
       ∙ ap (λ (v : Event). eqb v.step k) (sym (read_past 16 t.plan.events e blank_event ge))
       ∙ ap (λ (x : Fate). is_open x && eqb (step_of t.plan e) k) (sym (fate_past t e ge))
 
-  module _ (is : Bool) (test : is ≡ lapsesHere) (more : e < n) where
+  module _ (is : Bool) (test : is ≡ lapses_here) (more : e < n) where
     lapse_on : (u : State) → u ≡ lapse_if t e k → Lapsing events standings k n s (e + 1) u
     lapse_on u same = record {
       within = omega arith;
@@ -206,17 +206,17 @@ lapse_end n e s k ge =
 -- an event's step is not closed, by the arrays that a loop holds
 abbrev pub open_step : List Event → List Bool → ℕ → Bool
 open_step events closed e =
-    ltb (readAt 16 events e blank_event).step 8
-    && not (readAt 8 closed (readAt 16 events e blank_event).step false)
+    ltb (read_at 16 events e blank_event).step 8
+    && not (read_at 8 closed (read_at 16 events e blank_event).step false)
 
 module _ (events : List Event) (e k : ℕ) where
-  pub step_in_lem : e < 16 → k ≡ (get_or events e blank_event).step → k ≡ (readAt 16 events e blank_event).step
+  pub step_in_lem : e < 16 → k ≡ (get_or events e blank_event).step → k ≡ (read_at 16 events e blank_event).step
   step_in_lem lt is = is ∙ ap (λ (v : Event). v.step) (sym (read_in 16 events e blank_event lt))
 
-  pub step_past : 16 ≤ e → k ≡ 0 → k ≡ (readAt 16 events e blank_event).step
+  pub step_past : 16 ≤ e → k ≡ 0 → k ≡ (read_at 16 events e blank_event).step
   step_past ge is = is ∙ ap (λ (v : Event). v.step) (sym (read_past 16 events e blank_event ge))
 
-  module _ (closed : List Bool) (read : k ≡ (readAt 16 events e blank_event).step) where
+  module _ (closed : List Bool) (read : k ≡ (read_at 16 events e blank_event).step) where
     step_open : (b : Bool) → k < 8 → not (get_or closed k false) ≡ b → open_step events closed e ≡ b
     step_open b lt h = rw (← read, lt-ltb k 8 lt) h
 

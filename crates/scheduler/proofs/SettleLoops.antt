@@ -329,24 +329,24 @@ up_end (suc n) s le = absurd (omega arith)
 
 -- a loop that refuses the lowest held event and settles: none is held, or one is refused
 module _ (s : State) where
-  abbrev pub refusedNext : ℕ → State
-  refusedNext e = settle (settle_as Refused s e)
+  abbrev pub refused_next : ℕ → State
+  refused_next e = settle (settle_as Refused s e)
 
-  held_rest : (q : Option ℕ) → lowest_held s ≡ q → (n : ℕ) → map refusedNext q ≡ none → refuse_held (suc n) s ≡ s
+  held_rest : (q : Option ℕ) → lowest_held s ≡ q → (n : ℕ) → map refused_next q ≡ none → refuse_held (suc n) s ≡ s
   held_rest none is n h = refuse_none n s is
   held_rest (some e) is n h = absurd (some_none h)
 
   held_next : (q : Option ℕ)
       → lowest_held s ≡ q
       → (n : ℕ) (t : State)
-      → map refusedNext q ≡ some t
+      → map refused_next q ≡ some t
       → refuse_held (suc n) s ≡ refuse_held n t
   held_next none is n t h = absurd (some_none (sym h))
   held_next (some e) is n t h =
-      let here : refusedNext e ≡ t = cc in
+      let here : refused_next e ≡ t = cc in
       refuse_some n s e is ∙ ap (refuse_held n) here
 
-  module _ (r : Turned) (same : r ≡ turn_of s (map refusedNext (lowest_held s))) where
+  module _ (r : Turned) (same : r ≡ turn_of s (map refused_next (lowest_held s))) where
     pub refuse_rest : (n : ℕ) → 0 < n → r.moved ≡ false → refuse_held n s ≡ s
     refuse_rest zero lt f = absurd (omega arith)
     refuse_rest (suc n) lt f = held_rest (lowest_held s) refl n (turned_none s _ r same f)
@@ -371,12 +371,12 @@ module _ (s : State) (v : View) (w : Shows s.plan (fate_of s) v) where
         → (t u : State)
         → t ≡ settle_as Refused s e
         → u ≡ settle t
-        → record { moved = true; state = u } ≡ turn_of s (map (refusedNext s) (lowest_held s))
+        → record { moved = true; state = u } ≡ turn_of s (map (refused_next s) (lowest_held s))
     unfolding turn_of
     refuse_made lt t u first then =
         rw (low_held, lowest_below (in_set v.held) e same lt) (ap {B = Turned} (λ (x : State). record { moved = true; state = x }) (then ∙ ap settle first))
 
-    pub refuse_rests : (e < 16 → ⊥) → record { moved = false; state = s } ≡ turn_of s (map (refusedNext s) (lowest_held s))
+    pub refuse_rests : (e < 16 → ⊥) → record { moved = false; state = s } ≡ turn_of s (map (refused_next s) (lowest_held s))
     unfolding turn_of
     refuse_rests n = rw (low_held, lowest_past (in_set v.held) e same n)
 

@@ -1,7 +1,7 @@
 -- A state: how it is read, and the five ways to write it.
 use Rattle.scheduler.specs.Prelude.{ℕ, ◌+◌, Bool, true, false, cond, List, ◌≡◌, ltb, length, take, replicate, Fate, Held, Plan, Entry, State}
 use Rattle.scheduler.specs.declared.state.Course.{Course}
-use Rattle.plan.specs.Base.{readAt, storeAt}
+use Rattle.plan.specs.Base.{read_at, store_at}
 use Rattle.plan.specs.Fates.{Fates, fates_of, blank_standing}
 use Rattle.plan.specs.Plans.{empty_plan, allowed_at, over_at}
 use Rattle.plan.specs.Histories.{blank_entry}
@@ -29,11 +29,11 @@ fate_of s e = fates_of s.standings e
 
 -- the rule is recorded as broken (5.4)
 abbrev pub broken_at : State → ℕ → Bool
-broken_at s i = readAt 16 s.broken i false
+broken_at s i = read_at 16 s.broken i false
 
 -- the step is closed (5.4)
 abbrev pub closed_at : State → ℕ → Bool
-closed_at s k = readAt 8 s.closed k false
+closed_at s k = read_at 8 s.closed k false
 
 -- the event may be done or forced now: it has no window, or the minute lies in it (2.11)
 abbrev pub in_time : State → ℕ → Bool
@@ -55,7 +55,7 @@ lines s = take (line_count s) s.history
 unfoldable pub hold : State → ℕ → State
 hold s e = record {
   plan = s.plan;
-  standings = storeAt 16 s.standings e (record { fate = Held });
+  standings = store_at 16 s.standings e (record { fate = Held });
   broken = s.broken;
   closed = s.closed;
   history = s.history;
@@ -69,10 +69,10 @@ hold s e = record {
 unfoldable pub settle_as : Fate → State → ℕ → State
 settle_as x s e = record {
   plan = s.plan;
-  standings = storeAt 16 s.standings e (record { fate = x });
+  standings = store_at 16 s.standings e (record { fate = x });
   broken = s.broken;
   closed = s.closed;
-  history = storeAt 16 s.history (line_count s) (record { event = e; fate = x });
+  history = store_at 16 s.history (line_count s) (record { event = e; fate = x });
   history_len = cond (ltb (line_count s) 16) (line_count s + 1) (line_count s);
   minute = s.minute;
 }
@@ -83,7 +83,7 @@ shut s k = record {
   plan = s.plan;
   standings = s.standings;
   broken = s.broken;
-  closed = storeAt 8 s.closed k true;
+  closed = store_at 8 s.closed k true;
   history = s.history;
   history_len = line_count s;
   minute = s.minute;
@@ -94,7 +94,7 @@ unfoldable pub break_rule : State → ℕ → State
 break_rule s i = record {
   plan = s.plan;
   standings = s.standings;
-  broken = storeAt 16 s.broken i true;
+  broken = store_at 16 s.broken i true;
   closed = s.closed;
   history = s.history;
   history_len = line_count s;

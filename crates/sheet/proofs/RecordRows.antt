@@ -108,20 +108,20 @@ module _ (p : Plan) (len at : ℕ) (r : Record) where
 
 -- row 15's condition, by what the code reads in the event's place, and past the places
 module _ (p : Plan) (e from until : ℕ) where
-  abbrev windowBad : Event → Window → Bool
-  windowBad v w = leb (event_count p) e || not (holds_bit 4 v.attributes) || not (eqb w.until 0) || leb until from
+  abbrev window_bad : Event → Window → Bool
+  window_bad v w = leb (event_count p) e || not (holds_bit 4 v.attributes) || not (eqb w.until 0) || leb until from
 
   pub window_in_lem : (d : Bool) → e < 16 → d ≡ holds_bit 4 (get_or p.events e blank_event).attributes
       → (leb (event_count p) e || not d || not (eqb (get_or p.windows e blank_window).until 0) || leb until from) ≡ bad_window p e from until
   unfolding bad_window
   window_in_lem d lt h =
       ap (λ (b : Bool). leb (event_count p) e || not b || not (eqb (get_or p.windows e blank_window).until 0) || leb until from) h
-      ∙ ap₂ windowBad (sym (read_in 16 p.events e blank_event lt)) (sym (read_in 16 p.windows e blank_window lt))
+      ∙ ap₂ window_bad (sym (read_in 16 p.events e blank_event lt)) (sym (read_in 16 p.windows e blank_window lt))
 
   pub window_blank : 16 ≤ e → true ≡ bad_window p e from until
   unfolding bad_window
   window_blank ge =
-      sym (ap₂ windowBad (read_past 16 p.events e blank_event ge) (read_past 16 p.windows e blank_window ge) ∙ go (leb (event_count p) e))
+      sym (ap₂ window_bad (read_past 16 p.events e blank_event ge) (read_past 16 p.windows e blank_window ge) ∙ go (leb (event_count p) e))
     where
       go : (b : Bool) → (b || true || false || leb until from) ≡ true
       go true = refl

@@ -1,9 +1,9 @@
 // A journal that the host keeps: opening it, appending to it, and the record of a call.
 ghost use Rattle.std.specs.Prelude.{◌≡◌};
 ghost use Rattle.image.specs.Layout.{image_of};
-ghost use Rattle.journal.specs.Journals.{openJournal};
+ghost use Rattle.journal.specs.Journals.{open_journal};
 ghost use Rattle.journal.specs.Calls.{calls, asked_call, record_in, record_size};
-ghost use Rattle.journal.specs.Answers.{journal_read, journal_number, journal_offset, journal_left, askedReply, bufferAsked};
+ghost use Rattle.journal.specs.Answers.{journal_read, journal_number, journal_offset, journal_left, asked_reply, buffer_asked};
 
 use image::write::put_state;
 use recorder::append::append_asked;
@@ -20,10 +20,10 @@ pub extern "C" fn sinewhopa_open_journal(
     at: &mut usize,
     leftover: &mut usize,
 ) -> u8
-    ensures number { result ≡ journal_number (journal_read (openJournal calls journal.now)).verdict }
-    ensures bytes { state.new ≡ image_of (journal_read (openJournal calls journal.now)).state }
-    ensures offset { at.new ≡ journal_offset (journal_read (openJournal calls journal.now)).verdict }
-    ensures left { leftover.new ≡ journal_left (journal_read (openJournal calls journal.now)).verdict }
+    ensures number { result ≡ journal_number (journal_read (open_journal calls journal.now)).verdict }
+    ensures bytes { state.new ≡ image_of (journal_read (open_journal calls journal.now)).state }
+    ensures offset { at.new ≡ journal_offset (journal_read (open_journal calls journal.now)).verdict }
+    ensures left { leftover.new ≡ journal_left (journal_read (open_journal calls journal.now)).verdict }
 {
     let opened = open_journal(journal);
     let verdict = opened.verdict;
@@ -46,10 +46,10 @@ pub extern "C" fn sinewhopa_append(
     new_len: &mut usize,
     at: &mut usize,
 ) -> u8
-    ensures number { result ≡ (askedReply journal.old len (asked_call kind number)).number }
-    ensures bytes { journal.new ≡ bufferAsked journal.old len (asked_call kind number) }
-    ensures length { new_len.new ≡ (askedReply journal.old len (asked_call kind number)).len }
-    ensures offset { at.new ≡ (askedReply journal.old len (asked_call kind number)).at }
+    ensures number { result ≡ (asked_reply journal.old len (asked_call kind number)).number }
+    ensures bytes { journal.new ≡ buffer_asked journal.old len (asked_call kind number) }
+    ensures length { new_len.new ≡ (asked_reply journal.old len (asked_call kind number)).len }
+    ensures offset { at.new ≡ (asked_reply journal.old len (asked_call kind number)).at }
 {
     let asked = asked_call(kind, number);
     let reply = append_asked(journal, len, asked);

@@ -132,18 +132,18 @@ module _ (s : State) (h : coherent s ≡ true) where
   abbrev listed : ℕ → Bool
   listed e = listed_as (lines s) e (fate_of s e)
 
-  abbrev heldWaits : ℕ → Bool
-  heldWaits e = not (is_held (fate_of s e) && not (delayable p e))
+  abbrev held_waits : ℕ → Bool
+  held_waits e = not (is_held (fate_of s e) && not (delayable p e))
 
-  abbrev openUnclosed : ℕ → Bool
-  openUnclosed e = not (is_open (fate_of s e) && closed_at s (step_of p e))
+  abbrev open_unclosed : ℕ → Bool
+  open_unclosed e = not (is_open (fate_of s e) && closed_at s (step_of p e))
 
   pub event_passes : (e : ℕ)
       → e < event_count p
-      → (sound_event p e ≡ true) × (listed e ≡ true) × (heldWaits e ≡ true) × (openUnclosed e ≡ true)
+      → (sound_event p e ≡ true) × (listed e ≡ true) × (held_waits e ≡ true) × (open_unclosed e ≡ true)
   unfolding coherent_event
   event_passes e l =
-      and_four (sound_event p e) (listed e) (heldWaits e) (openUnclosed e)
+      and_four (sound_event p e) (listed e) (held_waits e) (open_unclosed e)
       (all_at (event_count p) (coherent_event s) parts.1 e l)
 
   -- a rule is sound; one that is not recorded as broken owes nothing and holds

@@ -10,7 +10,7 @@ use lib.Dec.{eqb, ltb, leb}
 use lib.ListN.{take, replicate}
 use Rattle.theory.proofs.Types.{Fate, Open, Held, Done, Refused, Lapsed, Forced, Rule, Order, Need, Conditional, Plan, Entry, State, CallFault, Incoherent, TurnedDown, Reply, Call, Submit, Close, Finish, Advance}
 use Rattle.plan.specs.declared.answer.Answer.TheVariants.{Is, Made}
-use Rattle.plan.specs.Base.{any_below, all_below, readAt}
+use Rattle.plan.specs.Base.{any_below, all_below, read_at}
 use Rattle.plan.specs.Fates.{is_open, is_held, is_done, is_settled, blank_standing}
 use Rattle.plan.specs.Plans.{empty_plan, event_count, rule_count, rule_at, step_of, delayable, has_event}
 use Rattle.plan.specs.Rules.{sound_event, sound_rule, sound_window, sound_windows}
@@ -48,7 +48,7 @@ forget_twice s =
 -- the table's rows
 module _ (s t : State) (k : Like s t) where
   closed_same : (j : ℕ) → closed_at s j ≡ closed_at t j
-  closed_same j = ap (λ (l : List Bool). readAt 8 l j false) (closed_like s t k)
+  closed_same j = ap (λ (l : List Bool). read_at 8 l j false) (closed_like s t k)
 
   rows_like : (c : Call) → call_rows s c ≡ call_rows t c
   rows_like (Submit e) = rw (ap event_count (plan_like s t k))

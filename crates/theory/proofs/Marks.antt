@@ -9,7 +9,7 @@ use lib.Dec.{eqb, ltb}
 use lib.ListN.{get_or, set, get_or-map}
 use Rattle.theory.proofs.Types.{Fate, Open, Held, Done, Refused, Lapsed, Forced, Rule, Order, Need, Conditional, Plan, State}
 use Rattle.plan.specs.declared.fate.Standing.{Standing}
-use Rattle.plan.specs.Base.{any_below, when, first_of, lowest, readAt, storeAt}
+use Rattle.plan.specs.Base.{any_below, when, first_of, lowest, read_at, store_at}
 use Rattle.plan.specs.Fates.{Fates, is_open, is_held, is_done, is_gone, blank_standing}
 use Rattle.plan.specs.Plans.{event_count, rule_count, rule_at, step_of, rejectable, delayable, allowed_at, over_at}
 use Rattle.plan.specs.Rules.{unstoppable, reckoned, triggered, bars, makes_wait, forbids, owes, ready}
@@ -28,7 +28,7 @@ map_set f [] i a = refl
 map_set f (x ∷ l) zero a = refl
 map_set f (x ∷ l) (suc i) a = ap (λ m. f x ∷ m) (map_set f l i a)
 
-map_store : {A B : Type 0} (f : A → B) (n : ℕ) (l : List A) (i : ℕ) (a : A) → map f (storeAt n l i a) ≡ storeAt n (map f l) i (f a)
+map_store : {A B : Type 0} (f : A → B) (n : ℕ) (l : List A) (i : ℕ) (a : A) → map f (store_at n l i a) ≡ store_at n (map f l) i (f a)
 map_store f n l i a = go (ltb i n)
   where
     go : (b : Bool) → map f (cond b (set l i a) l) ≡ cond b (set (map f l) i (f a)) (map f l)
@@ -169,7 +169,7 @@ module _ (s t : State) (k : Like s t) where
   kind_like e = same_kind (fate_of s e) (fate_of t e) (fate_like e)
 
   stands_like : (i : ℕ) → stands s i ≡ stands t i
-  stands_like i = ap (λ (l : List Bool). not (readAt 16 l i false)) broken_like
+  stands_like i = ap (λ (l : List Bool). not (read_at 16 l i false)) broken_like
 
   -- some rule that stands passes a test that sees no mark
   any_like : (f g : Plan → Rule → Bool)

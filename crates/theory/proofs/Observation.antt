@@ -12,7 +12,7 @@ use lib.Dec.{eqb}
 use lib.ListN.{length, get_or, get_or-eq_default}
 use lib.Seq.{ext_get_or, get_or-take, length-take-le, drop-append_seam}
 use Rattle.theory.proofs.Types.{Plan, Standing, Entry, State}
-use Rattle.plan.specs.Base.{readAt, among, those_below, tabulate}
+use Rattle.plan.specs.Base.{read_at, among, those_below, tabulate}
 use Rattle.plan.specs.Plans.{event_count}
 use Rattle.scheduler.specs.State.{fate_of, broken_at, closed_at, line_count, lines, hold}
 use Rattle.plan.specs.Fates.{blank_standing, is_open, is_settled}
@@ -47,7 +47,7 @@ module _ {A : Type 0} where
   -- the same by readings of an array of n elements
   pub array_tabulate : (n : ℕ) (l : List A) (g : ℕ → A) (d : A)
       → length l ≡ n
-      → ((k : ℕ) → k < n → readAt n l k d ≡ g k)
+      → ((k : ℕ) → k < n → read_at n l k d ≡ g k)
       → l ≡ tabulate n 0 g
   array_tabulate n l g d e h = as_tabulate n l g d e (λ k lt. sym (rw (lt-ltb k n lt)) ∙ h k lt)
 
@@ -79,7 +79,7 @@ module _ {p : Plan} {o : Observed} {s : State} (k : HistoryListed p s) (t : Blan
   ]
 
   standing_shown : (e : ℕ)
-      → ◌≡◌ {A = Standing} (readAt 16 s.standings e blank_standing) (record { fate = observed_fate o e })
+      → ◌≡◌ {A = Standing} (read_at 16 s.standings e blank_standing) (record { fate = observed_fate o e })
   standing_shown e i = record { fate = sym (fate_observed e) i }
 
   len_lines : length (lines s) ≡ line_count s

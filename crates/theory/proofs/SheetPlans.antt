@@ -201,18 +201,18 @@ module _ (p : Plan) (d from until : ℕ) (r : Read p) (good : bad_window p d fro
   unfolding add_window
   old_window e ne = read_other 16 p.windows d (record { from = from; until = until }) blank_window e ne
 
-  abbrev isRight : ℕ → Window → Bool
-  isRight e w = (eqb w.from 0 && eqb w.until 0) || (ltb e (event_count p) && delayable p e && ltb w.from w.until)
+  abbrev is_right : ℕ → Window → Bool
+  is_right e w = (eqb w.from 0 && eqb w.until 0) || (ltb e (event_count p) && delayable p e && ltb w.from w.until)
 
-  as_right : (e : ℕ) → sound_window (add_window p d from until) e ≡ isRight e (window_at (add_window p d from until) e)
+  as_right : (e : ℕ) → sound_window (add_window p d from until) e ≡ is_right e (window_at (add_window p d from until) e)
   unfolding sound_window add_window
   as_right e = refl
 
   window_sound : (e : ℕ) → e < 16 → sound_window (add_window p d from until) e ≡ true
   unfolding sound_window
   window_sound e l = as_right e ∙ elim (ℕ_discrete e d) [
-    | yes q ↦ rw q (ap (isRight d) new_window ∙ rw (lt-ltb d (event_count p) good_is.0, good_is.1, lt-ltb from until good_is.2) (or_right_true (eqb from 0 && eqb until 0)))
-    | no ne ↦ ap (isRight e) (old_window e ne) ∙ r.sound.window e l
+    | yes q ↦ rw q (ap (is_right d) new_window ∙ rw (lt-ltb d (event_count p) good_is.0, good_is.1, lt-ltb from until good_is.2) (or_right_true (eqb from 0 && eqb until 0)))
+    | no ne ↦ ap (is_right e) (old_window e ne) ∙ r.sound.window e l
   ]
 
   -- a rule names and asks what it did

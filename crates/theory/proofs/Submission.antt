@@ -331,12 +331,12 @@ module _ {p : Plan} {s : State} (sd : Sound p) (e : ℕ) (k : HistoryListed p s)
     order_else i a b l o = rw (unforbidden i a b l o, no_wait a b)
 
     -- so where it is strained, c can be forced
-    abbrev awaits-at : (i o c : ℕ)
+    abbrev awaits_at : (i o c : ℕ)
         → i < rule_count p
         → (rule_at p i ≡ Conditional o e c) ⊎ (rule_at p i ≡ Conditional e o c)
         → forcible p c ≡ false
         → Awaits p o e c
-    awaits-at i o c l is f = record {
+    awaits_at i o c l is f = record {
       place = i;
       within = l;
       is = is;
@@ -355,7 +355,7 @@ module _ {p : Plan} {s : State} (sd : Sound p) (e : ℕ) (k : HistoryListed p s)
       | inl f ↦ ap not f
       | inr f ↦
           let is : rule_at p i ≡ Conditional e b c = o ∙ ap (λ x. Conditional x b c) (sym y) in
-          absurd (clash (ap strained o ∙ z) (calm_await b c (awaits-at i b c l (inr is) f)))
+          absurd (clash (ap strained o ∙ z) (calm_await b c (awaits_at i b c l (inr is) f)))
     ]
 
     second_forced : (i a b c : ℕ)
@@ -368,7 +368,7 @@ module _ {p : Plan} {s : State} (sd : Sound p) (e : ℕ) (k : HistoryListed p s)
       | inl f ↦ ap not f
       | inr f ↦
           let is : rule_at p i ≡ Conditional a e c = o ∙ ap (λ x. Conditional a x c) (sym y) in
-          absurd (clash (ap strained o ∙ z) (calm_await a c (awaits-at i a c l (inl is) f)))
+          absurd (clash (ap strained o ∙ z) (calm_await a c (awaits_at i a c l (inl is) f)))
     ]
 
     weak_alone : (i : ℕ) (u : Rule)

@@ -283,10 +283,10 @@ module _ (m : ℕ) where
     unfolding call_fault
     to_fault s c q = ap₂ (λ (b : Bool) r. first_fault ((not b, Incoherent) ∷ r)) (to_coherent s) (to_rows s c q)
 
-    abbrev at-minute : Reply → Reply
-    at-minute r = record { answer = r.answer; state = to r.state }
+    abbrev at_minute : Reply → Reply
+    at_minute r = record { answer = r.answer; state = to r.state }
 
-    to_accept : (s : State) → Sized s → Of s → (c : Call) → is_advance c ≡ false → accept (to s) c ≡ at-minute (accept s c)
+    to_accept : (s : State) → Sized s → Of s → (c : Call) → is_advance c ≡ false → accept (to s) c ≡ at_minute (accept s c)
     unfolding accept
     to_accept s z h (Submit e) q =
         ap (λ (t : State). record { answer = Is (fate_of t e); state = t }) (to_submit s z h e)
@@ -295,12 +295,12 @@ module _ (m : ℕ) where
     to_accept s z h Finish q = ap (λ (t : State). record { answer = Made; state = t }) (to_finish s z h)
     to_accept s z h (Advance k) q = absurd (clash refl q)
 
-    to_call : (s : State) → Sized s → Of s → (c : Call) → is_advance c ≡ false → call (to s) c ≡ at-minute (call s c)
+    to_call : (s : State) → Sized s → Of s → (c : Call) → is_advance c ≡ false → call (to s) c ≡ at_minute (call s c)
     to_call s z h c q = go (call_fault s c) refl
       where
-        go : (f : Option CallFault) → call_fault s c ≡ f → call (to s) c ≡ at-minute (call s c)
-        go (some f) a = call_fault_lem (to s) c f (to_fault s c q ∙ a) ∙ sym (ap at-minute (call_fault_lem s c f a))
-        go none a = call_accept (to s) c (to_fault s c q ∙ a) ∙ to_accept s z h c q ∙ sym (ap at-minute (call_accept s c a))
+        go : (f : Option CallFault) → call_fault s c ≡ f → call (to s) c ≡ at_minute (call s c)
+        go (some f) a = call_fault_lem (to s) c f (to_fault s c q ∙ a) ∙ sym (ap at_minute (call_fault_lem s c f a))
+        go none a = call_accept (to s) c (to_fault s c q ∙ a) ∙ to_accept s z h c q ∙ sym (ap at_minute (call_accept s c a))
 
 -- of every state that code can hold
 pub timeless : (s : State) (m : ℕ) (c : Call) → Sized s → NoWindows s.plan → is_advance c ≡ false → Timeless s m c

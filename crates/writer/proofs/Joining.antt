@@ -118,29 +118,29 @@ module _ (g : ℕ → Window) where
 
 -- a sheet in its four parts
 module _ (p : Plan) where
-  abbrev eventBytes : List ℕ
-  eventBytes = joined event_record (events_of p)
+  abbrev event_bytes : List ℕ
+  event_bytes = joined event_record (events_of p)
 
-  abbrev ruleBytes : List ℕ
-  ruleBytes = joined rule_record (rules_of p)
+  abbrev bytes_of_rule : List ℕ
+  bytes_of_rule = joined rule_record (rules_of p)
 
-  abbrev timeBytes : List ℕ
-  timeBytes = window_bytes 0 (windows_of p)
+  abbrev time_bytes : List ℕ
+  time_bytes = window_bytes 0 (windows_of p)
 
-  pub sheet_parts : sheet_bytes p ≡ eventBytes ++ (ruleBytes ++ (timeBytes ++ (5 ∷ [])))
+  pub sheet_parts : sheet_bytes p ≡ event_bytes ++ (bytes_of_rule ++ (time_bytes ++ (5 ∷ [])))
   unfolding sheet_bytes
   sheet_parts =
-      append_assoc (eventBytes ++ ruleBytes) timeBytes (5 ∷ [])
-      ∙ append_assoc eventBytes ruleBytes (timeBytes ++ (5 ∷ []))
+      append_assoc (event_bytes ++ bytes_of_rule) time_bytes (5 ∷ [])
+      ∙ append_assoc event_bytes bytes_of_rule (time_bytes ++ (5 ∷ []))
 
   -- the longest: 16 events, 16 rules of four bytes, 16 windows, and the end record
   pub sheet_short : event_count p ≤ 16 → rule_count p ≤ 16 → sheet_length p ≤ 273
   sheet_short few_events few_rules =
       omega (
         arith,
-        ap length sheet_parts ∙ length-append eventBytes (ruleBytes ++ (timeBytes ++ (5 ∷ []))),
-        length-append ruleBytes (timeBytes ++ (5 ∷ [])),
-        length-append timeBytes (5 ∷ []),
+        ap length sheet_parts ∙ length-append event_bytes (bytes_of_rule ++ (time_bytes ++ (5 ∷ []))),
+        length-append bytes_of_rule (time_bytes ++ (5 ∷ [])),
+        length-append time_bytes (5 ∷ []),
         windows_few 0 (windows_of p),
         windows_count p,
         events_length (events_of p),

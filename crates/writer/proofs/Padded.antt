@@ -12,7 +12,7 @@ use mathlib.Core.List.{List, [], ◌∷◌, ◌++◌, map}
 use mathlib.Core.Path.{◌≡◌, refl, sym, ◌∙◌, ap}
 use lib.ListN.{length, get_or, take, drop, set, replicate, length-append, length-map, length-drop, length-replicate, take-append-drop, get_or-append, get_or-map}
 use lib.Seq.{get_or-append-add, set_at, append_snoc, length-take-le, get_or-take, get_or-drop, ext_get_or}
-use Rattle.plan.specs.Base.{tabulate, readAt, storeAt}
+use Rattle.plan.specs.Base.{tabulate, read_at, store_at}
 use Rattle.plan.specs.Plans.{blank_event, blank_rule, blank_window, event_count, rule_count, event_at, attributes_of, rule_at, window_at, from_of, until_of, is_window, delayable}
 use Rattle.plan.specs.Rules.{sound_window}
 use Rattle.plan.proofs.Tests.{and_left, and_right, or_either, clash, either}
@@ -42,7 +42,7 @@ module _ {A : Type 0} (blank : A) where
       ∙ sym (append_snoc l a (replicate (16 - suc (length l)) blank))
       ∙ ap (λ (n : ℕ). l ++ (a ∷ []) ++ replicate (16 - n) blank) (sym size)
 
-  stored_next : (l : List A) (a : A) → length l < 16 → storeAt 16 (padded l) (length l) a ≡ padded (l ++ (a ∷ []))
+  stored_next : (l : List A) (a : A) → length l < 16 → store_at 16 (padded l) (length l) a ≡ padded (l ++ (a ∷ []))
   stored_next l a lt = rw (lt-ltb (length l) 16 lt) (padded_next l a lt)
 
   -- one blank more changes nothing
@@ -55,7 +55,7 @@ module _ {A : Type 0} (blank : A) where
       ∙ ap (λ (n : ℕ). l ++ (blank ∷ []) ++ replicate (16 - n) blank) (sym size)
 
   -- the first of the blanks
-  padded_first : (l : List A) → length l < 16 → readAt 16 (padded l) (length l) blank ≡ blank
+  padded_first : (l : List A) → length l < 16 → read_at 16 (padded l) (length l) blank ≡ blank
   padded_first l lt =
       read_in 16 (padded l) (length l) blank lt
       ∙ ap (λ (k : ℕ). get_or (padded l) k blank) (sym (add-zero (length l)))
@@ -63,7 +63,7 @@ module _ {A : Type 0} (blank : A) where
       ∙ get_blank (16 - length l) blank 0
 
   -- what is read of it
-  padded_read : (l : List A) (i : ℕ) → length l ≤ 16 → i < length l → readAt 16 (padded l) i blank ≡ get_or l i blank
+  padded_read : (l : List A) (i : ℕ) → length l ≤ 16 → i < length l → read_at 16 (padded l) i blank ≡ get_or l i blank
   padded_read l i few lt =
       read_in 16 (padded l) i blank (omega arith)
       ∙ get_or-append l (replicate (16 - length l) blank) blank i lt
@@ -72,14 +72,14 @@ module _ {A : Type 0} (blank : A) where
 padded_array : {A : Type 0} (blank : A) (l : List A) (n : ℕ)
     → length l ≡ 16
     → n ≤ 16
-    → ((i : ℕ) → n ≤ i → readAt 16 l i blank ≡ blank)
-    → tabulate n 0 (λ i. readAt 16 l i blank) ++ replicate (16 - n) blank ≡ l
+    → ((i : ℕ) → n ≤ i → read_at 16 l i blank ≡ blank)
+    → tabulate n 0 (λ i. read_at 16 l i blank) ++ replicate (16 - n) blank ≡ l
 padded_array {A} blank l n len few beyond =
     (λ i. first i ++ rest i) ∙ take-append-drop n l
   where
-    first : tabulate n 0 (λ i. readAt 16 l i blank) ≡ take n l
+    first : tabulate n 0 (λ i. read_at 16 l i blank) ≡ take n l
     first =
-        sym (as_tabulate n (take n l) (λ i. readAt 16 l i blank) blank (length-take-le n l (omega arith)) (λ k lt. get_or-take n l k blank lt ∙ sym (read_in 16 l k blank (omega arith))))
+        sym (as_tabulate n (take n l) (λ i. read_at 16 l i blank) blank (length-take-le n l (omega arith)) (λ k lt. get_or-take n l k blank lt ∙ sym (read_in 16 l k blank (omega arith))))
 
     rest : replicate (16 - n) blank ≡ drop n l
     rest =
@@ -130,7 +130,7 @@ module _ (es : List Event) (ls : List RuleLine) (ws : List Window) (e : ℕ) (q 
   pub add_window_lem : (w : Window) → add_window (made es ls ws) e w.from w.until ≡ made es ls (ws ++ (w ∷ []))
   unfolding add_window
   add_window_lem w =
-      let stored = ap (λ (k : ℕ). storeAt 16 (padded blank_window ws) k w) (sym q) ∙ stored_next blank_window ws w (omega arith) in
+      let stored = ap (λ (k : ℕ). store_at 16 (padded blank_window ws) k w) (sym q) ∙ stored_next blank_window ws w (omega arith) in
       λ i. record {
         events = padded blank_event es;
         event_count = length es;
@@ -141,7 +141,7 @@ module _ (es : List Event) (ls : List RuleLine) (ws : List Window) (e : ℕ) (q 
 
   -- which had none, and may go without
   pub next_blank : window_at (made es ls ws) e ≡ blank_window
-  next_blank = ap (λ (k : ℕ). readAt 16 (padded blank_window ws) k blank_window) (sym q) ∙ padded_first blank_window ws (omega arith)
+  next_blank = ap (λ (k : ℕ). read_at 16 (padded blank_window ws) k blank_window) (sym q) ∙ padded_first blank_window ws (omega arith)
 
   pub no_window : made es ls ws ≡ made es ls (ws ++ (blank_window ∷ []))
   no_window i = record {

@@ -7,7 +7,7 @@ use mathlib.Core.Logic.{◌≢◌}
 use mathlib.Core.Path.{◌≡◌, sym, ◌∙◌, ap}
 use borrow.Author.Tests.{eq-eqb, ne_eqb}
 use lib.ListN.{length, get_or}
-use Rattle.plan.specs.Base.{tabulate, readAt}
+use Rattle.plan.specs.Base.{tabulate, read_at}
 use Rattle.plan.specs.Plans.{blank_event, blank_rule, blank_window, event_count, rule_count}
 use Rattle.plan.proofs.Arrays.{read_in}
 use Rattle.theory.proofs.Observation.{length_tabulate}
@@ -21,7 +21,7 @@ use Rattle.writer.proofs.Joining.{made_none, made_next, events_length, rule_few,
 -- the events
 module _ (events : List Event) where
   abbrev event : ℕ → Event
-  event e = readAt 16 events e blank_event
+  event e = read_at 16 events e blank_event
 
   pub events_none : (page : List ℕ) → Put page 0 (event_records events 0) page 0
   events_none page = put_as (sym (made_none event_record event)) (put_none page 0)
@@ -54,7 +54,7 @@ rule_put page at after end {r} {q} e room h =
 -- the rules
 module _ (rules : List RuleLine) where
   abbrev rule : ℕ → Rule
-  rule i = (readAt 16 rules i blank_rule).rule
+  rule i = (read_at 16 rules i blank_rule).rule
 
   pub rules_none : (page : List ℕ) (at : ℕ) → Put page at (rule_records rules 0) page at
   rules_none page at = put_as (sym (made_none rule_record rule)) (put_none page at)
@@ -91,7 +91,7 @@ module _ (page : List ℕ) (at e : ℕ) (w : Window) where
 -- the windows
 module _ (windows : List Window) where
   abbrev window : ℕ → Window
-  window e = readAt 16 windows e blank_window
+  window e = read_at 16 windows e blank_window
 
   pub times_none : (page : List ℕ) (at : ℕ) → Put page at (window_records windows 0) page at
   times_none page at = put_as (sym (windows_none window)) (put_none page at)

@@ -1,6 +1,6 @@
 -- What settling events writes: fates and history.
 use Rattle.scheduler.specs.Prelude.{ℕ, ◌+◌, Bool, cond, List, [], ◌∷◌, ltb, Fate, State}
-use Rattle.plan.specs.Base.{storeAt}
+use Rattle.plan.specs.Base.{store_at}
 use Rattle.plan.specs.Fates.{done_as}
 use Rattle.scheduler.specs.declared.state.Written.{Written}
 
@@ -22,8 +22,8 @@ with_written s w = record {
 -- one event settled
 unfoldable pub write_one : Fate → Written → ℕ → Written
 write_one x w e = record {
-  standings = storeAt 16 w.standings e (record { fate = x });
-  history = storeAt 16 w.history w.history_len (record { event = e; fate = x });
+  standings = store_at 16 w.standings e (record { fate = x });
+  history = store_at 16 w.history w.history_len (record { event = e; fate = x });
   history_len = cond (ltb w.history_len 16) (w.history_len + 1) w.history_len;
 }
 

@@ -5,11 +5,11 @@ use mathlib.Core.Bool.{false}
 use lib.Dec.{eqb}
 use lib.ListN.{replicate}
 use Rattle.image.specs.Layout.{mark_at, byte_at}
-use Rattle.image.proofs.RowLoops.{fillTo}
+use Rattle.image.proofs.RowLoops.{fill_to}
 use Rattle.image.proofs.read.broken_in.Given as goal
 
 abbrev pub invariant-loop-i : goal.invariant-loop-i
-invariant-loop-i l = (l.i ≤ 16) × (l.row ≡ fillTo (λ k. eqb (byte_at l.image (mark_at + k)) 1) (replicate 16 false) l.i)
+invariant-loop-i l = (l.i ≤ 16) × (l.row ≡ fill_to (λ k. eqb (byte_at l.image (mark_at + k)) 1) (replicate 16 false) l.i)
 
 abbrev pub decreases-loop-i : goal.decreases-loop-i
 decreases-loop-i l = 16 - l.i

@@ -4,11 +4,11 @@ use mathlib.Core.Path.{◌≡◌}
 use lib.ListN.{replicate}
 use Rattle.plan.specs.Histories.{blank_entry}
 use Rattle.image.specs.Layout.{entry_in}
-use Rattle.image.proofs.RowLoops.{fillTo}
+use Rattle.image.proofs.RowLoops.{fill_to}
 use Rattle.image.proofs.read.history_in.Given as goal
 
 abbrev pub invariant-loop-i : goal.invariant-loop-i
-invariant-loop-i l = (l.i ≤ 16) × (l.row ≡ fillTo (entry_in l.image) (replicate 16 blank_entry) l.i)
+invariant-loop-i l = (l.i ≤ 16) × (l.row ≡ fill_to (entry_in l.image) (replicate 16 blank_entry) l.i)
 
 abbrev pub decreases-loop-i : goal.decreases-loop-i
 decreases-loop-i l = 16 - l.i

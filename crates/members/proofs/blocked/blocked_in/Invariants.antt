@@ -6,7 +6,7 @@ use Rattle.plan.specs.Base.{any_below}
 use Rattle.plan.specs.Fates.{Fates}
 use Rattle.members.specs.Prelude.{Plan}
 use Rattle.members.specs.Sets.{in_set, unbroken, Shows}
-use Rattle.members.proofs.Blocking.{blocksAt}
+use Rattle.members.proofs.Blocking.{blocks_at}
 use Rattle.members.proofs.blocked.blocked_in.Given as goal
 
 abbrev pub invariant-loop-i : goal.invariant-loop-i
@@ -16,7 +16,7 @@ invariant-loop-i l = (l.i ≤ l.count)
     → Shows p f l.view
     → (x : ℕ)
     → x < 16
-    → in_set l.blocked x ≡ any_below l.i (blocksAt p f (unbroken l.broken) l.left x))
+    → in_set l.blocked x ≡ any_below l.i (blocks_at p f (unbroken l.broken) l.left x))
 
 abbrev pub decreases-loop-i : goal.decreases-loop-i
 decreases-loop-i l = l.count - l.i

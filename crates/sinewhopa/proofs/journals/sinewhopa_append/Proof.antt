@@ -1,7 +1,7 @@
 -- `sinewhopa_append` meets its contract.
 use mathlib.Core.Path.{◌∙◌, ap}
 use Rattle.journal.specs.declared.append.AppendReply.{AppendReply}
-use Rattle.journal.specs.Answers.{askedReply, bufferAsked}
+use Rattle.journal.specs.Answers.{asked_reply, buffer_asked}
 use borrow.Author.Rules.{rules}
 use Rattle.sinewhopa.proofs.journals.sinewhopa_append.Statement.{statement}
 use Rattle.sinewhopa.proofs.journals.sinewhopa_append.Tie as tie
@@ -22,9 +22,9 @@ returns c =
     let len = start.args.len in
     let made = c.before.before.append-asked.ensures in
     let asked = c.before.before.before.before.asked_call_lem.ensures in
-    let reply = made.0 ∙ ap (askedReply journal len) asked in (
+    let reply = made.0 ∙ ap (asked_reply journal len) asked in (
       ap (λ (r : AppendReply). r.number) reply,
-      (made.1 ∙ ap (bufferAsked journal len) asked, (ap (λ (r : AppendReply). r.len) reply, ap (λ (r : AppendReply). r.at) reply)),
+      (made.1 ∙ ap (buffer_asked journal len) asked, (ap (λ (r : AppendReply). r.len) reply, ap (λ (r : AppendReply). r.at) reply)),
     )
 
 pub sinewhopa-append-spec : {M : Type 1} → statement M

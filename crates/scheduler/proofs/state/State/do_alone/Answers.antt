@@ -6,7 +6,7 @@ use mathlib.Core.Bool.{Bool, true, false, not}
 use mathlib.Core.List.{List}
 use mathlib.Core.Path.{refl, sym, ◌∙◌, ap, subst}
 use Rattle.scheduler.specs.Prelude.{Done, State, Plan}
-use Rattle.plan.specs.Base.{readAt}
+use Rattle.plan.specs.Base.{read_at}
 use Rattle.members.specs.Sets.{Shows}
 use Rattle.members.proofs.PlaceReads.{rule_read_lem, mark_read}
 use Rattle.scheduler.specs.State.{fate_of}
@@ -25,12 +25,12 @@ loop-i-preserved c = (
       let old = c.loop-i.invariant.1 s same marks was is done in
       (elim c.if-i-lt16.branch [
         | then-i-lt16+then-not-broken-i w ↦ record_strained s c.args.event c.settle_as-next.result c.loop-i.i c.loop-i.next _ w.does_forbid.result w.does_owe.result done old
-            (ap (λ (l : List Bool). not (readAt 16 l c.loop-i.i false)) marks ∙ mark_read c.args.self.broken c.loop-i.i true w.if-i-lt16.true (ap not w.if-not-broken-i.true))
+            (ap (λ (l : List Bool). not (read_at 16 l c.loop-i.i false)) marks ∙ mark_read c.args.self.broken c.loop-i.i true w.if-i-lt16.true (ap not w.if-not-broken-i.true))
             (rule_read_lem s.plan _ same c.loop-i.i w.if-i-lt16.true)
             (w.does_forbid.ensures s.plan (fate_of s) was)
             (w.does_owe.ensures s.plan _ is)
             ∙ sym (w.next-is ∙ w.break_if-next.ensures)
-        | then-i-lt16+else-not-broken-i w ↦ record_broken_lem s c.args.event c.settle_as-next.result c.loop-i.i c.loop-i.next done old (ap (λ (l : List Bool). not (readAt 16 l c.loop-i.i false)) marks ∙ mark_read c.args.self.broken c.loop-i.i false w.if-i-lt16.true (ap not w.if-not-broken-i.false)) ∙ sym w.next-is
+        | then-i-lt16+else-not-broken-i w ↦ record_broken_lem s c.args.event c.settle_as-next.result c.loop-i.i c.loop-i.next done old (ap (λ (l : List Bool). not (read_at 16 l c.loop-i.i false)) marks ∙ mark_read c.args.self.broken c.loop-i.i false w.if-i-lt16.true (ap not w.if-not-broken-i.false)) ∙ sym w.next-is
         | else-i-lt16 w ↦ record_past s c.args.event c.settle_as-next.result c.loop-i.i c.loop-i.next done old w.if-i-lt16.false ∙ sym w.next-is
       ]),
 )

@@ -3,7 +3,7 @@ use Prim.Native.Nat.{◌-◌}
 use native.Mathlib.Omega.{arith}
 use mathlib.Core.Bool.{true, false, not}
 use mathlib.Core.Path.{◌≡◌, ap}
-use Rattle.plan.specs.Base.{readAt}
+use Rattle.plan.specs.Base.{read_at}
 use Rattle.plan.specs.Plans.{blank_event}
 use Rattle.plan.proofs.Loops.{none_zero, none_next}
 use Rattle.scheduler.proofs.CallLoops.{step_in_lem, step_past, open_here, closed_here, beyond_here, unclosed_some, unclosed_none}
@@ -14,14 +14,14 @@ pub loop-e-init : goal.loop-e-init
 loop-e-init c = (omega arith, none_zero _)
 
 pub returns-then-not-closed-step : goal.returns-then-not-closed-step
-returns-then-not-closed-step c = let read : c.if-e-lt16.step ≡ (readAt 16 c.args.self.plan.events c.loop-e.e blank_event).step = elim c.if-e-lt16.branch [
+returns-then-not-closed-step c = let read : c.if-e-lt16.step ≡ (read_at 16 c.args.self.plan.events c.loop-e.e blank_event).step = elim c.if-e-lt16.branch [
   | then-e-lt16 w ↦ step_in_lem c.args.self.plan.events c.loop-e.e _ w.if-e-lt16.true w.step-is
   | else-e-lt16 w ↦ step_past c.args.self.plan.events c.loop-e.e _ w.if-e-lt16.false w.step-is
 ] in
     unclosed_some c.args.self c.loop-e.e c.loop-e-test.true (open_here c.args.self.plan.events c.loop-e.e _ c.args.self.closed read c.if-step-lt8.true (ap not c.if-not-closed-step.true))
 
 pub loop-e-preserved : goal.loop-e-preserved
-loop-e-preserved c = let read : c.if-e-lt16.step ≡ (readAt 16 c.args.self.plan.events c.loop-e.e blank_event).step = elim c.if-e-lt16.branch [
+loop-e-preserved c = let read : c.if-e-lt16.step ≡ (read_at 16 c.args.self.plan.events c.loop-e.e blank_event).step = elim c.if-e-lt16.branch [
   | then-e-lt16 w ↦ step_in_lem c.args.self.plan.events c.loop-e.e _ w.if-e-lt16.true w.step-is
   | else-e-lt16 w ↦ step_past c.args.self.plan.events c.loop-e.e _ w.if-e-lt16.false w.step-is
 ] in (
