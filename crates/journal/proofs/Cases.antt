@@ -24,7 +24,7 @@ use Rattle.scheduler.specs.Lists.{scheduler, turned_down}
 use Rattle.scheduler.specs.Demand.{Demand3, seen}
 use Rattle.scheduler.specs.Runner.{held_count}
 use Rattle.journal.specs.Types.{Call, Submit, Close, Finish, Advance, State, AppendReply}
-use Rattle.journal.specs.Records.{front, run_up_to, run, whole_inside}
+use Rattle.journal.specs.Records.{front, run_up_to, run, whole_within}
 use Rattle.journal.specs.Journals.{Opening, Opens, opened_at, open_journal, room_for, append_to, append, written_by, buffer_after}
 use Rattle.journal.specs.Claims.{opens_after, SurvivesCut, AppendsCall, Kept, fresh, appended as store, lost, cut_back}
 use Rattle.journal.specs.Calls.{calls, asked_call, record_in, record_size}
@@ -178,7 +178,7 @@ unfolding open_journal opened_at run run_up_to front read_plan read_from record_
     makes_wait forbids owes ready listed_as fates_in any_done done_in done_in_turn holds declared_only same_fates ruled_out barred
     forbidden owing strains may_do do_all order_of chosen to_refuse to_do settle_once settle_up_to settle record_broken do_alone
     decide submit lapse close_step refuse_held finish advance_to coherent_event coherent_rule coherent call_fault accept call
-    whole_inside first_call advance_in any_call_first append append_to room_for written_by
+    whole_within first_call advance_in any_call_first append append_to room_for written_by
 kept_morning =
     store {b = sheet_a} {cs = []}
     (cut_back {b = sheet_a ++ (16 ∷ [])} {cs = []}
@@ -206,7 +206,7 @@ unfolding turned_down read_sheet sheet_plan ending open_journal opened_at run ru
     makes_wait forbids owes ready listed_as fates_in any_done done_in done_in_turn holds declared_only same_fates ruled_out barred
     forbidden owing strains may_do do_all order_of chosen to_refuse to_do settle_once settle_up_to settle record_broken do_alone
     decide submit lapse close_step refuse_held finish advance_to coherent_event coherent_rule coherent call_fault accept call
-    whole_inside first_call advance_in any_call_first append append_to room_for written_by
+    whole_within first_call advance_in any_call_first append append_to room_for written_by
 instances = (
   cut sheet_a first_a refl (Submit 0 ∷ Close 1 ∷ []) refl,
   appending (sheet_a ++ (17 ∷ 7 ∷ 238 ∷ [])) 14 (Submit 0) 13 15 refl,

@@ -15,7 +15,7 @@ use Rattle.scheduler.specs.Answers.{call_fault, call}
 use Rattle.scheduler.specs.Lists.{scheduler, after, turned_down}
 use Rattle.scheduler.specs.Demand.{Demand3, seen}
 use Rattle.journal.specs.Types.{Plan, Call, Submit, Cut, State, JournalVerdict, Journal}
-use Rattle.journal.specs.Records.{made, records, whole_inside}
+use Rattle.journal.specs.Records.{made, records, whole_within}
 use Rattle.journal.specs.Journals.{Opens, Unread, Appended, journal_of, open_journal, append, buffer_after}
 use Rattle.journal.specs.Claims.{SurvivesCut, AppendsCall}
 use Rattle.journal.specs.Calls.{calls}
@@ -35,7 +35,7 @@ pub cut_says : (p : Plan)
     × (open_journal calls (one ++ (16 ∷ [])) ≡ Opens (first_state p) 4 1)
     × (open_journal calls (one ++ (16 ∷ 0 ∷ [])) ≡ Opens (call (first_state p) now).state 6 0)
     × ((at : ℕ) × (at ≤ 2) × (open_journal calls (1 ∷ 0 ∷ []) ≡ Unread Cut at))
-unfolding records made whole_inside
+unfolding records made whole_within
 cut_says p c = (c.behind 4 (omega arith), c.behind 5 (omega arith), c.behind 6 (omega arith), c.inside 2 (omega arith))
 
 -- a record over leftover bytes: opened, cut again, and the bytes beyond it

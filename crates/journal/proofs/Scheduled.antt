@@ -25,7 +25,7 @@ use Rattle.plan.proofs.Tables.{row_miss}
 use Rattle.theory.proofs.Coherence.{call_taken, fault_answer}
 use Rattle.theory.proofs.Demands.{demand3}
 use Rattle.journal.specs.Types.{Plan, Call, CallFault, Incoherent, SheetFault, Extra, Answer, Admitted, Faulty, State, Reading}
-use Rattle.journal.specs.Records.{Ran, size, run, records, made, Accepted, whole_inside}
+use Rattle.journal.specs.Records.{Ran, size, run, records, made, Accepted, whole_within}
 use Rattle.journal.specs.Journals.{Opening, Opens, Broken, Appended, journal_of, open_journal, append_to, append, buffer_after}
 use Rattle.journal.specs.Claims.{opens_after, SurvivesCut, ExactlyWhole, AppendsCall, Kept}
 use Rattle.journal.specs.Calls.{calls}
@@ -200,7 +200,7 @@ module _ (sheet : List ℕ) (s : State) (read : read_sheet sheet ≡ admitted s)
         ≡ Opens (after scheduler s kept) (length (sheet ++ encode kept)) (length remains - length (sheet ++ encode kept))
     cut_opens fits kept e =
         let j = take n (journal_of calls sheet cs) in
-        let same : whole_inside calls (n - length sheet) cs ≡ kept = sym (exactly_unique calls lawful (n - length sheet) cs kept e) in
+        let same : whole_within calls (n - length sheet) cs ≡ kept = sym (exactly_unique calls lawful (n - length sheet) cs kept e) in
         let long : length (journal_of calls sheet kept) ≡ length (sheet ++ encode kept) =
         ap (λ (l : List ℕ). length (sheet ++ l)) (records_encode kept) in
         ap (open_journal calls) as_kept

@@ -2,7 +2,7 @@
 use Rattle.std.specs.Prelude.{ℕ, ◌+◌, ◌-◌, ◌≤◌, ◌<◌, Bool, true, false, List, [], ◌∷◌, ◌++◌, ◌≡◌, length, take, drop}
 use Rattle.std.proofs.Math.Option.{none}
 use Rattle.journal.specs.Types.{Plan, Cut}
-use Rattle.journal.specs.Records.{Keeping, size, records, made, Recorded, whole_inside}
+use Rattle.journal.specs.Records.{Keeping, size, records, made, Recorded, whole_within}
 use Rattle.journal.specs.Journals.{Opening, Opens, Unread, Appending, Appended, TooLong, BadSheet, BadRecord, TurnedDown, NoRoom, journal_of, open_journal, append, buffer_after}
 
 abbrev pub is_appended : {F : Type 0} → Appending F → Bool
@@ -23,7 +23,7 @@ module _ {S C F : Type 0} (k : Keeping S C F) where
   pub record SurvivesCut (sheet : List ℕ) (p : Plan) (cs : List C) : Type 0 where
     pub behind : (n : ℕ) → length sheet ≤ n
         → open_journal k (take n (journal_of k sheet cs))
-        ≡ opens_after (take n (journal_of k sheet cs)) sheet (k.first p) (whole_inside k (n - length sheet) cs)
+        ≡ opens_after (take n (journal_of k sheet cs)) sheet (k.first p) (whole_within k (n - length sheet) cs)
     pub inside : (n : ℕ) → n < length sheet
         → (at : ℕ) × (at ≤ n) × (open_journal k (take n (journal_of k sheet cs)) ≡ Unread Cut at)
 
@@ -63,7 +63,7 @@ module _ {S C F : Type 0} (k : Keeping S C F) where
     lost : {b : List ℕ} {cs : List C} → Kept sheet b cs
         → (n : ℕ)
         → length sheet ≤ n
-        → Kept sheet (take n b) (whole_inside k (n - length sheet) cs)
+        → Kept sheet (take n b) (whole_within k (n - length sheet) cs)
     cut_back : {b : List ℕ} {cs : List C} → Kept sheet b cs
         → (s : S) (end left : ℕ)
         → open_journal k b ≡ Opens s end left

@@ -93,6 +93,6 @@ module _ {S C F : Type 0} (k : Keeping S C F) where
   AllRecorded (c ∷ cs) = Recorded c × AllRecorded cs
 
   -- the calls whose records are whole in the first n bytes of the records of these calls (16.8)
-  unfoldable pub whole_inside : ℕ → List C → List C
-  whole_inside n [] = []
-  whole_inside n (c ∷ cs) = elim (leb (size c) n) [ true ↦ c ∷ whole_inside (n - size c) cs | false ↦ [] ]
+  unfoldable pub whole_within : ℕ → List C → List C
+  whole_within n [] = []
+  whole_within n (c ∷ cs) = elim (leb (size c) n) [ true ↦ c ∷ whole_within (n - size c) cs | false ↦ [] ]
