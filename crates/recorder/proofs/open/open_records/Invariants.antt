@@ -1,0 +1,11 @@
+-- `open_records` meets its contract. The loop's invariant is `Underway`.
+use Prim.Native.Nat.{◌-◌}
+use lib.ListN.{length}
+use Rattle.recorder.specs.Internal.Underway.{Underway}
+use Rattle.recorder.proofs.open.open_records.Given as goal
+
+abbrev pub invariant-loop-made : goal.invariant-loop-made
+invariant-loop-made l = Underway l.initial.next l.bytes l.from l.next l.at
+
+abbrev pub decreases-loop-made : goal.decreases-loop-made
+decreases-loop-made l = length l.bytes - l.at
