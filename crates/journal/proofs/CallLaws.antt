@@ -3,10 +3,10 @@
 use Prim.Native.Nat.{ℕ, zero, suc, ◌≤◌, ◌<◌}
 use native.Mathlib.Omega.{arith}
 use native.Mathlib.Decide.{ℕ_discrete}
-use borrow.Author.Tests.{eqb-true, ltb-true, le-ltb, ne_eqb}
-use mathlib.Core.Bool.{Bool, true, false}
-use mathlib.Core.List.{List, [], ◌∷◌, ◌++◌, append-nil}
-use mathlib.Core.Option.{Option, none, some}
+use borrow.Author.Tests.{ltb-true, le-ltb, ne_eqb}
+use mathlib.Core.Bool.{true, false}
+use mathlib.Core.List.{List, [], ◌∷◌, append-nil}
+use mathlib.Core.Option.{some}
 use mathlib.Core.Path.{◌≡◌, refl, sym, ◌∙◌, ap, subst}
 use lib.Dec.{eqb, ltb}
 use lib.ListN.{length, get_or, take}
@@ -19,7 +19,7 @@ use Rattle.plan.proofs.AnyCalls.{call_back}
 use Rattle.journal.specs.Types.{Call, Submit, Close, Finish, Advance, CallRead, Listed, End, Bad}
 use Rattle.journal.specs.Records.{Front, Whole, Short, Other, as_front, size, front, Recorded, AllRecorded}
 use Rattle.journal.specs.Calls.{record_length, listed_call, calls}
-use Rattle.journal.proofs.Fronts.{Lawful, front_other, front_short, front_whole}
+use Rattle.journal.proofs.Fronts.{Lawful, front_other, front_whole}
 
 -- whole records, by their kind
 data RecordIs : List ℕ → Type 0 where

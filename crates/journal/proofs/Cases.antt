@@ -23,9 +23,9 @@ use Rattle.scheduler.specs.Answers.{call_fault, accept, call}
 use Rattle.scheduler.specs.Lists.{scheduler, turned_down}
 use Rattle.scheduler.specs.Demand.{Demand3, seen}
 use Rattle.scheduler.specs.Runner.{held_count}
-use Rattle.journal.specs.Types.{Call, Submit, Close, Finish, Advance, State, AppendReply}
+use Rattle.journal.specs.Types.{Submit, Close, State}
 use Rattle.journal.specs.Records.{front, run_up_to, run, whole_within}
-use Rattle.journal.specs.Journals.{Opening, Opens, opened_at, open_journal, room_for, append_to, append, written_by, buffer_after}
+use Rattle.journal.specs.Journals.{Opens, opened_at, open_journal, room_for, append_to, append, written_by}
 use Rattle.journal.specs.Claims.{opens_after, SurvivesCut, AppendsCall, Kept, fresh, appended as store, lost, cut_back}
 use Rattle.journal.specs.Calls.{calls, asked_call, record_in, record_size}
 use Rattle.journal.specs.Scheduled.{StoresRecord, HoldsCalls}

@@ -1,11 +1,11 @@
 -- What the claims on journals say of one journal. Each is taken out of the claim alone, so that a claim with a premise
 -- that nothing meets, or without one of its clauses, would not give it.
-use Prim.Native.Nat.{ℕ, ◌+◌, ◌≤◌}
+use Prim.Native.Nat.{ℕ, ◌≤◌}
 use native.Mathlib.Omega.{arith}
 use mathlib.Core.Bool.{true}
 use mathlib.Core.List.{List, [], ◌∷◌, ◌++◌}
 use mathlib.Core.Option.{none}
-use mathlib.Core.Path.{◌≡◌, refl}
+use mathlib.Core.Path.{◌≡◌}
 use lib.ListN.{length, take, drop}
 use lib.Pow.{are_bytes}
 use Rattle.scheduler.specs.State.{first_state}
@@ -19,7 +19,7 @@ use Rattle.journal.specs.Records.{made, records, whole_within}
 use Rattle.journal.specs.Journals.{Opens, Unread, Appended, journal_of, open_journal, append, buffer_after}
 use Rattle.journal.specs.Claims.{SurvivesCut, AppendsCall}
 use Rattle.journal.specs.Calls.{calls}
-use Rattle.journal.specs.Scheduled.{RecordAppended, StoresRecord, HoldsCalls, JournalHolds}
+use Rattle.journal.specs.Scheduled.{StoresRecord, HoldsCalls, JournalHolds}
 
 -- a sheet of one event, four bytes, and a submit of it
 abbrev one : List ℕ

@@ -1,5 +1,5 @@
 -- What the code answers, and the numbers of the answers.
-use Rattle.std.specs.Prelude.{ℕ, true, cond, List, eqb, ltb, length, take}
+use Rattle.std.specs.Prelude.{ℕ, cond, List, eqb, ltb, length, take}
 use Rattle.plan.specs.Faults.{sheet_fault_number, call_fault_number}
 use Rattle.scheduler.specs.State.{empty_state}
 use Rattle.journal.specs.Types.{Call, CallFault, State, RecordRead, Asked, Wanted, Wrong, JournalVerdict, Journal, AppendAnswer, AppendReply}

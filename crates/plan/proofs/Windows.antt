@@ -5,7 +5,7 @@ use native.Mathlib.Decide.{dec_lt}
 use borrow.Author.Tests.{leb-true, le-leb, ltb-true, lt-ltb}
 use mathlib.Core.Bool.{Bool, true, false, not, ◌&&◌, ◌||◌}
 use mathlib.Core.Logic.{inl, inr}
-use mathlib.Core.Path.{◌≡◌, refl, ◌∙◌, ap}
+use mathlib.Core.Path.{◌≡◌, refl, ap}
 use lib.Dec.{eqb, ltb, leb}
 use Rattle.plan.specs.Prelude.{Window, Plan}
 use Rattle.plan.specs.Plans.{event_count, blank_window, window_at, from_of, until_of, has_window, delayable, allowed_at, over_at, allowed_in, over_in}

@@ -6,10 +6,9 @@ use mathlib.Core.Bool.{true, false, cond}
 use mathlib.Core.List.{List}
 use mathlib.Core.Option.{Option, none, some}
 use mathlib.Core.Path.{◌≡◌, refl, sym, ◌∙◌, ap}
-use lib.Dec.{eqb, ltb}
+use lib.Dec.{eqb}
 use lib.ListN.{length, take}
 use lib.Seq.{sets-eq, length-sets, length-take-le}
-use Rattle.plan.specs.Calls.{call_bytes, call_size}
 use Rattle.plan.specs.Faults.{is_turned_down, sheet_fault_number, call_fault_number}
 use Rattle.image.proofs.Numbers.{sheet_byte, answer_byte}
 use Rattle.pages.specs.Written.{written, Put}

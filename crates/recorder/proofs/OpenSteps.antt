@@ -9,24 +9,24 @@ use mathlib.Core.List.{List, [], ◌∷◌, ◌++◌}
 use mathlib.Core.Path.{◌≡◌, refl, sym, ◌∙◌, ap, subst}
 use lib.ListN.{length, get_or, take, drop, length-drop, drop_of_length-le, take-append-drop}
 use lib.Seq.{drop-cons, drop-drop, length-take-le, take-take}
-use Rattle.plan.specs.Calls.{call_size, any_call_first, first_call}
+use Rattle.plan.specs.Calls.{call_size, first_call}
 use Rattle.plan.specs.Faults.{sheet_fault_number}
 use Rattle.plan.specs.Fates.{is_open}
 use Rattle.plan.specs.Plans.{event_count}
-use Rattle.plan.specs.Sheets.{whole, faulty, read_plan}
+use Rattle.plan.specs.Sheets.{whole, read_plan}
 use Rattle.plan.proofs.CallRecords.{more_left, finish_first}
 use Rattle.plan.proofs.AnyCalls.{narrow_back}
 use Rattle.scheduler.specs.State.{first_state, empty_state, fate_of, Sized}
 use Rattle.scheduler.specs.Coherent.{coherent}
-use Rattle.scheduler.specs.Sheet.{read_sheet, admitted, not_admitted}
+use Rattle.scheduler.specs.Sheet.{read_sheet, admitted}
 use Rattle.scheduler.specs.Answers.{turns_down, idle, accept, call}
 use Rattle.scheduler.proofs.Branches.{call_accept}
 use Rattle.scheduler.proofs.CallSteps.{turned_down_lem, not_turned_down, idle_same, submit_turns, submit_idle}
 use Rattle.theory.proofs.Coherence.{call_coherent, sized_call}
 use Rattle.theory.proofs.Demands.{admitted_coherent}
-use Rattle.recorder.specs.Types.{Plan, Call, Submit, Finish, CallRead, Listed, SheetFault, Extra, Cut, BadKind, Full, BadStep, BadAttributes, BadNames, Unenforceable, BadWindow, Verdict, Admitted, Faulty, State, Reading, Reply, RecordRead, JournalVerdict, Journal}
+use Rattle.recorder.specs.Types.{Plan, Call, Submit, Finish, Listed, SheetFault, Extra, Cut, BadKind, Full, BadStep, BadAttributes, BadNames, Unenforceable, BadWindow, Admitted, Faulty, State, Reading, Reply, RecordRead, JournalVerdict, Journal}
 use Rattle.journal.specs.Records.{Front, Whole, Short, Other, stopped, size, front, run}
-use Rattle.journal.specs.Journals.{Opening, Opens, Broken, Unread, opened_at, open_journal}
+use Rattle.journal.specs.Journals.{Opening, Opens, Broken, opened_at, open_journal}
 use Rattle.journal.specs.Calls.{calls}
 use Rattle.journal.specs.Answers.{record_read, journal_read}
 use Rattle.journal.proofs.Fronts.{whole_inside}

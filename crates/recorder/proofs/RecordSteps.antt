@@ -4,7 +4,7 @@ use native.Mathlib.Omega.{arith}
 use borrow.Author.Tests.{lt-ltb, le-ltb, ne_eqb}
 use mathlib.Core.List.{List, ◌++◌}
 use mathlib.Core.Path.{◌≡◌, refl, sym, ◌∙◌, ap}
-use lib.ListN.{length, get_or, take, drop}
+use lib.ListN.{get_or, take, drop}
 use lib.Seq.{get_or-drop}
 use Rattle.plan.specs.Calls.{call_bytes, call_size, any_call_first}
 use Rattle.recorder.specs.Types.{Call, Submit, Close, Finish, Advance, CallRead, Listed, End, Bad, RecordRead, CallRecord, Asked, Wanted, Wrong}

@@ -1,5 +1,5 @@
 -- The sets of a state's windows: what one pass over them tells, and that no write of settling changes it.
-use Prim.Native.Nat.{ℕ, ◌<◌}
+use Prim.Native.Nat.{ℕ}
 use borrow.Author.Tests.{lt-ltb}
 use mathlib.Core.Bool.{Bool, ◌&&◌}
 use mathlib.Core.List.{List, [], ◌∷◌}

@@ -3,18 +3,18 @@ use Prim.Native.Nat.{ℕ, zero, suc, ◌+◌, ◌≤◌, ◌<◌}
 use native.Mathlib.Omega.{arith}
 use native.Mathlib.Decide.{ℕ_discrete}
 use borrow.Author.Tests.{eq-eqb, eqb-true, not-false}
-use mathlib.Core.Bool.{Bool, true, false, not, ◌&&◌}
+use mathlib.Core.Bool.{true, false, not, ◌&&◌}
 use mathlib.Core.List.{List}
 use mathlib.Core.Logic.{inl, inr}
 use mathlib.Core.Option.{Option, none, some}
 use mathlib.Core.Path.{◌≡◌, refl, sym, ◌∙◌, ap, subst}
 use lib.Dec.{eqb}
-use Rattle.theory.proofs.Types.{Open, Refused, Lapsed, Plan, State, CallFault, Incoherent, Reply, Call, Submit, Close, Finish, Advance}
+use Rattle.theory.proofs.Types.{Open, Lapsed, Plan, State, CallFault, Incoherent, Reply, Call, Submit, Close, Finish, Advance}
 use Rattle.plan.specs.Fates.{is_open}
 use Rattle.plan.specs.Plans.{event_count, step_of, rejectable, delayable}
 use Rattle.scheduler.specs.State.{fate_of, hold, settle_as, shut, set_minute, Sized}
-use Rattle.scheduler.specs.Orders.{chosen, do_all}
-use Rattle.scheduler.specs.Calls.{settle, decide, submit, lapse, close_step, finish, advance_to}
+use Rattle.scheduler.specs.Orders.{chosen}
+use Rattle.scheduler.specs.Calls.{settle, decide, submit, lapse, close_step, advance_to}
 use Rattle.scheduler.specs.Coherent.{coherent}
 use Rattle.scheduler.specs.Answers.{call_rows, call_fault, accept}
 use Rattle.scheduler.specs.Lists.{Scheduler, scheduler}

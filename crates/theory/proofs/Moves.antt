@@ -1,24 +1,21 @@
 -- S-7: a move of the minute only adds lines that settling at that minute gives, each with its reason.
-use Prim.Native.Nat.{ℕ, ◌≤◌, ◌<◌}
+use Prim.Native.Nat.{ℕ, ◌≤◌}
 use native.Mathlib.Omega.{arith}
 use native.Mathlib.Decide.{dec_lt}
-use borrow.Author.Tests.{not-true, le-ltb}
-use mathlib.Core.Bool.{Bool, true, false, not}
+use borrow.Author.Tests.{le-ltb}
+use mathlib.Core.Bool.{true}
 use mathlib.Core.List.{List, [], ◌∷◌, ◌++◌, append-nil, append_assoc, Memᴰ}
 use mathlib.Core.Option.{none}
 use mathlib.Core.Path.{◌≡◌, refl, sym, ◌∙◌, ap, subst}
-use lib.Dec.{ltb}
 use Rattle.theory.proofs.Types.{Fate, Held, Refused, Entry, State, Reply, Advance}
-use Rattle.plan.specs.Fates.{is_done}
 use Rattle.plan.specs.Faults.{first_fault}
 use Rattle.scheduler.specs.State.{fate_of, line_count, lines, settle_as, set_minute, Sized}
 use Rattle.scheduler.specs.Orders.{First, fate_at_turn, do_one, do_all}
-use Rattle.scheduler.specs.Calls.{Turn, refuses, does, Turns, stay, turn, Settles, settle, advance_to}
+use Rattle.scheduler.specs.Calls.{Turn, refuses, does, Turns, stay, turn, settle, advance_to}
 use Rattle.scheduler.specs.Coherent.{coherent}
-use Rattle.scheduler.specs.Answers.{call_fault, accept, call}
+use Rattle.scheduler.specs.Answers.{call_fault, accept}
 use Rattle.scheduler.specs.Lists.{scheduler}
-use Rattle.scheduler.proofs.Laws.{turn_done, lines_settle, lines_minute, minute_moved, plan_minute, sized_settle, sized_one, sized_minute}
-use Rattle.scheduler.proofs.Searching.{sized-do_all}
+use Rattle.scheduler.proofs.Laws.{turn_done, lines_settle, lines_minute, sized_one, sized_minute}
 use Rattle.scheduler.proofs.Settling.{sized_turn, settle_settles}
 use Rattle.scheduler.proofs.Branches.{call_accept}
 use Rattle.scheduler.proofs.Doing.{lines_full}

@@ -4,13 +4,13 @@ use Prim.Native.Nat.{ℕ, ◌<◌}
 use native.Mathlib.Omega.{arith}
 use native.Mathlib.Decide.{ℕ_discrete}
 use borrow.Author.Tests.{leb-false, not-true, not-false}
-use mathlib.Core.Bool.{Bool, true, false, not, ◌&&◌, ◌||◌}
+use mathlib.Core.Bool.{true, false, not, ◌&&◌}
 use mathlib.Core.List.{List, [], ◌∷◌}
 use mathlib.Core.Logic.{◌≢◌, ◌⊎◌, inl, inr}
 use mathlib.Core.Option.{Option, none, some}
 use mathlib.Core.Path.{◌≡◌, refl, sym, ◌∙◌, ap, subst}
 use lib.Dec.{ltb, leb}
-use Rattle.theory.proofs.Types.{Fate, Open, Held, Done, Refused, Lapsed, Plan, State, CallFault, Unknown, Incoherent, Call, Submit, Close, Finish, Advance}
+use Rattle.theory.proofs.Types.{Fate, Held, Done, Refused, Lapsed, Plan, State, CallFault, Unknown, Incoherent, Call, Submit}
 use Rattle.plan.specs.Fates.{is_open, is_held, is_gone, is_settled}
 use Rattle.plan.specs.Plans.{event_count, attributes_of, step_of, holds_bit, rejectable, delayable}
 use Rattle.plan.specs.Rules.{bad_step, bad_attributes, sound_event}
@@ -21,7 +21,7 @@ use Rattle.scheduler.specs.Coherent.{coherent}
 use Rattle.scheduler.specs.Answers.{call_rows, call_fault}
 use Rattle.scheduler.specs.Lists.{Scheduler, scheduler}
 use Rattle.theory.specs.Exact.{Lapses, none_open, lapse_next, Decides, by_order, by_refusal, by_itself, Makes, answers, waits, decides, closes, finishes, advances, Exact, RefusesRejectable}
-use Rattle.plan.proofs.Tests.{and_left, and_right, and_not, or_right, clash}
+use Rattle.plan.proofs.Tests.{and_right, and_not, or_right, clash}
 use Rattle.plan.proofs.Tables.{none_applies}
 use Rattle.plan.proofs.Fates.{as_done}
 use Rattle.scheduler.proofs.Laws.{plan_settle, fate_settle_same, fate_settle_either, fate_settle_other, sized_settle, sized_one, plan_hold, fate_hold_same, fate_hold_other, sized_hold, plan_shut, fate_shut, sized_shut, plan_minute, fate_minute, sized_minute}

@@ -7,7 +7,7 @@ use mathlib.Core.List.{List, [], ◌∷◌}
 use mathlib.Core.Logic.{inl, inr}
 use mathlib.Core.Path.{◌≡◌, refl, ap}
 use lib.ListN.{get_or, length, drop}
-use Rattle.theory.proofs.Types.{Need, Conditional, Done, Lapsed, Forced, Entry, State, Call, Submit, Close, Finish, Advance, Unknown}
+use Rattle.theory.proofs.Types.{Need, Conditional, Done, Lapsed, Forced, Entry, State, Submit, Close, Finish, Advance, Unknown}
 use Rattle.plan.specs.Plans.{empty_plan, over_at, over_in}
 use Rattle.plan.specs.Fates.{is_held}
 use Rattle.plan.specs.Histories.{blank_entry, any_done, done_in, done_in_turn, holds}
@@ -15,7 +15,7 @@ use Rattle.plan.specs.Rules.{named, enforceable, sound_rule, owes, unstoppable, 
 use Rattle.plan.specs.Faults.{first_fault}
 use Rattle.plan.specs.Records.{rule_of, add_event, add_rule, add_window, declare, record_fault}
 use Rattle.plan.specs.Sheets.{read_from, read_plan, ending, sheet_plan}
-use Rattle.scheduler.specs.State.{first_state, empty_state, fate_of, broken_at, line_count, lines, hold, settle_as, shut, break_rule, set_minute, Sized}
+use Rattle.scheduler.specs.State.{first_state, empty_state, fate_of, broken_at, line_count, settle_as, shut, break_rule, set_minute, Sized}
 use Rattle.scheduler.specs.Orders.{Viable, order_of, chosen}
 use Rattle.plan.specs.Base.{first_of}
 use Rattle.scheduler.specs.Calls.{AtRest, settle, record_broken, do_alone}
@@ -31,7 +31,7 @@ use Rattle.plan.proofs.Tests.{clash}
 use Rattle.scheduler.proofs.Laws.{sized_hold, sized_minute, sized_shut, sized_settle}
 use Rattle.scheduler.proofs.Doing.{rest_held}
 use Rattle.theory.proofs.Demands.{first_sized, all_open}
-use Rattle.theory.proofs.Worthless.{one, read_one, one_event, shown_by, on_one, scheduled, holder, doer, orderless, refuser, once_only, untouched, sluggish, acts_close, one_held, one_done, need_held, need_forced, need_first, read_forced, consent_form, consent_first, read_consent, timeless_clock, window_sheet, window_first, read_window, window_held, held_sized, restless}
+use Rattle.theory.proofs.Worthless.{one, shown_by, on_one, scheduled, holder, doer, orderless, once_only, untouched, sluggish, acts_close, one_held, one_done, need_forced, need_first, read_forced, consent_form, consent_first, read_consent, timeless_clock, window_sheet, window_first, read_window, window_held, held_sized, restless}
 
 -- Demand 3, clause by clause.
 

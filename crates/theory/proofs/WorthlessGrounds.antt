@@ -11,16 +11,16 @@ use mathlib.Core.Path.{◌≡◌, refl, sym, ◌∙◌, ap, subst}
 use lib.Dec.{eqb, ltb}
 use lib.ListN.{get_or, length}
 use Rattle.theory.proofs.Types.{Need, Fate, Open, Held, Done, Refused, Lapsed, Forced, Order, Plan, Entry, State, Call, Submit, Close, Finish, Advance, Window}
-use Rattle.plan.specs.Plans.{empty_plan, event_count, rule_count, rule_at, step_of, rejectable, delayable, has_window, blank_window}
-use Rattle.plan.specs.Fates.{Fates, is_open, is_held, is_done, is_gone, is_settled}
+use Rattle.plan.specs.Plans.{empty_plan, event_count, rule_count, rule_at, step_of, delayable, has_window, blank_window}
+use Rattle.plan.specs.Fates.{is_open, is_held, is_done, is_gone, is_settled}
 use Rattle.plan.specs.Histories.{blank_entry, any_done, done_in, done_in_turn, holds}
 use Rattle.plan.specs.Rules.{named, enforceable, sound_rule, bars, ready, owes}
 use Rattle.plan.specs.Records.{add_event, add_rule, add_window}
-use Rattle.scheduler.specs.State.{first_state, fate_of, lines, hold, settle_as, shut, set_minute, Sized}
+use Rattle.scheduler.specs.State.{first_state, fate_of, hold, settle_as, shut, set_minute, Sized}
 use Rattle.scheduler.specs.Rules.{stands, ruled_out, barred, forbidden, owing}
 use Rattle.scheduler.specs.Orders.{may_do, do_one, do_all, Viable, First}
 use Rattle.scheduler.specs.Calls.{settle, advance_to}
-use Rattle.scheduler.specs.Coherent.{coherent_rule, coherent}
+use Rattle.scheduler.specs.Coherent.{coherent_rule}
 use Rattle.scheduler.specs.Lists.{Scheduler, scheduler}
 use Rattle.scheduler.specs.Grounds.{Ground, by_bar, by_submission, by_finish, Trail, held, refused, Grounded}
 use Rattle.scheduler.specs.Answers.{call}

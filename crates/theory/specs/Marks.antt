@@ -1,5 +1,5 @@
 -- The mark forced: a state without its marks, and which events may be marked.
-use Rattle.std.specs.Prelude.{ℕ, ◌<◌, true, List, [], ◌∷◌, ◌++◌, map, ◌⊎◌, ◌≡◌}
+use Rattle.std.specs.Prelude.{ℕ, ◌<◌, true, List, ◌∷◌, ◌++◌, map, ◌⊎◌, ◌≡◌}
 use Rattle.plan.specs.declared.fate.Fate.{Fate}
 use Rattle.plan.specs.declared.fate.Fate.TheVariants.{Open, Held, Done, Refused, Lapsed, Forced}
 use Rattle.plan.specs.declared.fate.Standing.{Standing}

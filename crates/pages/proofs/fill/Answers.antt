@@ -1,5 +1,5 @@
 -- `fill` meets its contract. The loop's invariant: the text's first i bytes are copied.
-use Prim.Native.Nat.{ℕ, ◌-◌}
+use Prim.Native.Nat.{ℕ}
 use native.Mathlib.Omega.{arith}
 use mathlib.Core.List.{List}
 use mathlib.Core.Path.{◌∙◌, ap}

@@ -1,5 +1,4 @@
 -- `put_bytes` meets its contract. The loop's invariant: the first i bytes are put.
-use Prim.Native.Nat.{◌-◌}
 use native.Mathlib.Omega.{arith}
 use Rattle.pages.proofs.Pages.{word_none, word_next, word_all, put_no_room, after_put}
 use Rattle.pages.proofs.put_bytes.Goals as goal

@@ -1,5 +1,4 @@
 -- `broken_count` meets its contract.
-use Prim.Native.Nat.{◌-◌}
 use mathlib.Core.Bool.{false}
 use mathlib.Core.Path.{◌≡◌, sym, ◌∙◌}
 use Rattle.plan.specs.Base.{read_at}

@@ -1,5 +1,4 @@
 -- `held_count` meets its contract.
-use Prim.Native.Nat.{◌-◌}
 use mathlib.Core.Path.{◌≡◌, sym, ◌∙◌, ap}
 use Rattle.plan.specs.Fates.{blank_standing, is_held, fates_of}
 use Rattle.plan.specs.declared.fate.Standing.{Standing}

@@ -1,7 +1,6 @@
 -- `write_report` meets its contract: the page has room for the report, and what it holds up to the report's length is
 -- copied.
 use Prim.Native.Nat.{ℕ, ◌≤◌}
-use native.Mathlib.Nat.{zero-add}
 use native.Mathlib.Omega.{arith}
 use mathlib.Core.List.{List}
 use mathlib.Core.Path.{◌∙◌, ap}

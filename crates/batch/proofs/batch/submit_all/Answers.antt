@@ -1,15 +1,15 @@
 -- `submit_all` meets its contract. A batch that is turned down keeps every entry; else each turn answers one.
 use Rattle.std.proofs.Common.{◌≡◌, refl, sym, ◌∙◌, ap, length, List, arith}
-use mathlib.Core.Bool.{true, false, not}
+use mathlib.Core.Bool.{true, false}
 use mathlib.Core.Option.{Option, none, some}
 use borrow.Author.Tests.{not-true, not-false}
 use Rattle.plan.proofs.Tests.{clash}
-use Rattle.batch.specs.Types.{State, Reply, BatchEntry, Answered, Judged, CallFault, Made}
+use Rattle.batch.specs.Types.{State, Reply, BatchEntry, Judged, CallFault, Made}
 use Rattle.scheduler.specs.Lists.{scheduler, after}
 use Rattle.scheduler.proofs.Sizes.{sized}
 use Rattle.batch.specs.Batch.{batch_fault, batch_reply, batch_entries, answers, calls_of}
-use Rattle.batch.specs.Internal.Turns.{verdict_of, turn}
-use Rattle.batch.proofs.BatchLoop.{Underway, begins, goes_on, stops}
+use Rattle.batch.specs.Internal.Turns.{verdict_of}
+use Rattle.batch.proofs.BatchLoop.{begins, goes_on, stops}
 use Rattle.batch.proofs.Verdicts.{taken_coherent, taken_none, reply_some, reply_none, entries_some, entries_none}
 use Rattle.batch.proofs.batch.submit_all.Goals as goal
 

@@ -1,7 +1,5 @@
 -- `has_event` meets its contract. The loop: no event below e is of the step.
-use Prim.Native.Nat.{◌-◌}
 use native.Mathlib.Omega.{arith}
-use mathlib.Core.Bool.{false}
 use mathlib.Core.Path.{sym}
 use Rattle.plan.specs.Plans.{blank_event}
 use Rattle.plan.proofs.Arrays.{read_in, read_past}

@@ -1,11 +1,6 @@
 -- `is_enforceable` meets its contract. What it reads of an event past the places is the blank's.
-use mathlib.Core.Bool.{Bool}
-use mathlib.Core.Path.{◌≡◌, ◌∙◌, ap}
-use Prim.Native.Nat.{ℕ}
+use mathlib.Core.Path.{◌∙◌, ap}
 use Rattle.plan.specs.declared.rule.Names.{Names}
-use Rattle.plan.specs.declared.rule.Rule.{Rule}
-use Rattle.plan.specs.declared.plan.Plan.{Plan}
-use Rattle.plan.specs.Plans.{attributes_of, holds_bit}
 use Rattle.plan.specs.Internal.Names.{names_of}
 use Rattle.plan.proofs.RuleReads.{bit_in, bit_past, bit_named, order_enforced, need_enforced, conditional_enforced}
 use Rattle.checks.proofs.rule.is_enforceable.Goals as goal

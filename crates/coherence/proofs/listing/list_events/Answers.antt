@@ -1,5 +1,4 @@
 -- `list_events` meets its contract. The loop's invariant: what the lines passed tell (`Turn`).
-use Prim.Native.Nat.{◌-◌}
 use native.Mathlib.Omega.{arith}
 use mathlib.Core.Path.{refl, sym, ◌∙◌}
 use Rattle.coherence.proofs.Listings.{turn_start, turn_undeclared, turn_wrong, turn_gone, turn_done, turn_all}

@@ -1,9 +1,7 @@
 -- `are_events_coherent` meets its contract. The loop's invariant: every event passed has passed the tests.
-use Prim.Native.Nat.{◌-◌}
 use native.Mathlib.Omega.{arith}
 use borrow.Author.Count.{below_more}
 use borrow.Author.Tests.{not-true, not-false}
-use mathlib.Core.Bool.{true}
 use mathlib.Core.Path.{sym}
 use Rattle.coherence.proofs.CoherentTests.{passes_both, event_unsound, event_wrong, events_pass}
 use mathlib.Core.Bool.{not}

@@ -1,9 +1,6 @@
 -- `are_rules_coherent` meets its contract. The loop's invariant: every rule passed has passed the tests.
-use Prim.Native.Nat.{◌-◌}
 use native.Mathlib.Omega.{arith}
-use borrow.Author.Rules.{rules}
 use borrow.Author.Tests.{not-true, not-false}
-use mathlib.Core.Bool.{true}
 use mathlib.Core.Path.{refl, sym}
 use Rattle.plan.specs.Fates.{fates_of}
 use Rattle.plan.specs.Plans.{event_count}

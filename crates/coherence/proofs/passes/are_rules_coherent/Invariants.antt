@@ -1,11 +1,9 @@
 -- `are_rules_coherent` meets its contract. The loop's invariant: every rule passed has passed the tests.
 use Prim.Native.Nat.{ℕ, ◌<◌, ◌≤◌, ◌-◌}
-use borrow.Author.Rules.{rules}
 use mathlib.Core.Bool.{true, ◌&&◌}
 use mathlib.Core.List.{List}
 use mathlib.Core.Path.{◌≡◌}
 use Rattle.plan.specs.Fates.{fates_of}
-use Rattle.plan.specs.Plans.{event_count}
 use Rattle.coherence.specs.Listings.{Placed, place_in}
 use Rattle.coherence.specs.Prelude.{Plan, Entry}
 use Rattle.coherence.proofs.CoherentTests.{admits_at, kept_at}

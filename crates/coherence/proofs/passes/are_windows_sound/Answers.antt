@@ -1,7 +1,5 @@
 -- `are_windows_sound` meets its contract. The loop's invariant: every place passed is right.
-use Prim.Native.Nat.{◌-◌}
 use native.Mathlib.Omega.{arith}
-use mathlib.Core.Bool.{true}
 use mathlib.Core.Path.{sym, ◌∙◌}
 use Rattle.coherence.proofs.WindowTests.{window_wrong, windows_right}
 use Rattle.coherence.proofs.passes.are_windows_sound.Goals as goal

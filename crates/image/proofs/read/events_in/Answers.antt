@@ -1,5 +1,4 @@
 -- `events_in` meets its contract.
-use Prim.Native.Nat.{◌-◌}
 use native.Mathlib.Omega.{arith}
 use mathlib.Core.Path.{refl}
 use Rattle.plan.specs.Plans.{blank_event}

@@ -1,5 +1,4 @@
 -- `standings_in` meets its contract.
-use Prim.Native.Nat.{◌-◌}
 use native.Mathlib.Omega.{arith}
 use mathlib.Core.Path.{ap}
 use Rattle.plan.specs.Fates.{blank_standing}

@@ -1,5 +1,4 @@
 -- `windows_in` meets its contract.
-use Prim.Native.Nat.{◌-◌}
 use native.Mathlib.Omega.{arith}
 use Rattle.plan.specs.Plans.{blank_window}
 use Rattle.image.specs.Layout.{window_in}

@@ -1,5 +1,4 @@
 -- `are_places` meets its contract.
-use Prim.Native.Nat.{◌-◌}
 use native.Mathlib.Omega.{arith}
 use Rattle.image.specs.Layout.{place_ok}
 use Rattle.image.proofs.RowLoops.{all_none, all_next}

@@ -1,5 +1,4 @@
 -- `are_words` meets its contract.
-use Prim.Native.Nat.{◌-◌}
 use native.Mathlib.Omega.{arith}
 use Rattle.image.specs.Layout.{word_ok}
 use Rattle.image.proofs.RowLoops.{all_none, all_next}

@@ -1,5 +1,4 @@
 -- `put_fates` meets its contract.
-use Prim.Native.Nat.{◌-◌}
 use native.Mathlib.Omega.{arith}
 use Rattle.image.specs.Internal.Writes.{fate_byte}
 use Rattle.image.specs.Layout.{fate_at}

@@ -1,5 +1,4 @@
 -- `put_firsts` meets its contract.
-use Prim.Native.Nat.{◌-◌}
 use native.Mathlib.Omega.{arith}
 use Rattle.image.specs.Internal.Writes.{a_byte}
 use Rattle.image.specs.Layout.{a_at}

@@ -1,5 +1,4 @@
 -- `put_kinds` meets its contract.
-use Prim.Native.Nat.{◌-◌}
 use native.Mathlib.Omega.{arith}
 use Rattle.image.specs.Internal.Writes.{kind_byte}
 use Rattle.image.specs.Layout.{kind_at}

@@ -1,5 +1,4 @@
 -- `put_line_events` meets its contract.
-use Prim.Native.Nat.{◌-◌}
 use native.Mathlib.Omega.{arith}
 use mathlib.Core.Path.{refl}
 use Rattle.image.specs.Internal.Writes.{line_event_byte}

@@ -1,5 +1,4 @@
 -- `put_line_fates` meets its contract.
-use Prim.Native.Nat.{◌-◌}
 use native.Mathlib.Omega.{arith}
 use Rattle.image.specs.Internal.Writes.{line_fate_byte}
 use Rattle.image.specs.Layout.{line_fate_at}

@@ -1,5 +1,4 @@
 -- `put_seconds` meets its contract.
-use Prim.Native.Nat.{◌-◌}
 use native.Mathlib.Omega.{arith}
 use Rattle.image.specs.Internal.Writes.{b_byte}
 use Rattle.image.specs.Layout.{b_at}

@@ -1,5 +1,4 @@
 -- `put_thirds` meets its contract.
-use Prim.Native.Nat.{◌-◌}
 use native.Mathlib.Omega.{arith}
 use Rattle.image.specs.Internal.Writes.{c_byte}
 use Rattle.image.specs.Layout.{c_at}

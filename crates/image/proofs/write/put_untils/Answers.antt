@@ -1,5 +1,4 @@
 -- `put_untils` meets its contract.
-use Prim.Native.Nat.{◌-◌}
 use native.Mathlib.Omega.{arith}
 use lib.ListN.{get_or}
 use Rattle.plan.specs.Plans.{blank_window}

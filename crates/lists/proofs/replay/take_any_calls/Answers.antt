@@ -1,5 +1,4 @@
 -- `take_any_calls` meets its contract. The loop's invariant is `Underway` of Running.antt.
-use Prim.Native.Nat.{◌-◌}
 use native.Mathlib.Omega.{arith}
 use mathlib.Core.Path.{sym, ◌∙◌}
 use Rattle.plan.proofs.CallDecoding.{decodes_all}

@@ -1,5 +1,4 @@
 -- `blocked_in` meets its contract. The loop: the set has what the rules below i block.
-use Prim.Native.Nat.{◌-◌}
 use native.Mathlib.Omega.{arith}
 use mathlib.Core.Bool.{true, false}
 use mathlib.Core.Path.{◌∙◌, ap}

@@ -1,6 +1,5 @@
 -- `blocked_in` meets its contract. The loop: the set has what the rules below i block.
 use Prim.Native.Nat.{ℕ, ◌≤◌, ◌<◌, ◌-◌}
-use borrow.Author.Rules.{rules}
 use mathlib.Core.Path.{◌≡◌}
 use Rattle.plan.specs.Base.{any_below}
 use Rattle.plan.specs.Fates.{Fates}

@@ -1,5 +1,4 @@
 -- `close_set` meets its contract. The loop: members that lie in every set that would do, closed where a pass found no more.
-use Prim.Native.Nat.{◌-◌}
 use borrow.Author.Tests.{not-true, not-false}
 use mathlib.Core.Path.{refl, sym, ◌∙◌}
 use Rattle.members.proofs.Growing.{close_start, close_next, close_none}

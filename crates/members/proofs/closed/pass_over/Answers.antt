@@ -1,5 +1,4 @@
 -- `pass_over` meets its contract. The loop: the members after the rules below i.
-use Prim.Native.Nat.{◌-◌}
 use native.Mathlib.Omega.{arith}
 use borrow.Author.Tests.{not-true, not-false}
 use mathlib.Core.Bool.{true, false}

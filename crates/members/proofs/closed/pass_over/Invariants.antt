@@ -1,6 +1,5 @@
 -- `pass_over` meets its contract. The loop: the members after the rules below i.
 use Prim.Native.Nat.{ℕ, ◌≤◌, ◌-◌}
-use borrow.Author.Rules.{rules}
 use mathlib.Core.Path.{◌≡◌}
 use Rattle.plan.specs.Fates.{Fates}
 use Rattle.plan.specs.Plans.{rule_count}

@@ -1,6 +1,5 @@
 -- `spare` meets its contract. The loop: what the rules from i on leave of the events at hand.
-use Prim.Native.Nat.{◌≤◌, ◌-◌}
-use borrow.Author.Rules.{rules}
+use Prim.Native.Nat.{◌≤◌}
 use mathlib.Core.Path.{◌≡◌}
 use Rattle.plan.specs.Fates.{Fates}
 use Rattle.plan.specs.Plans.{rule_count}

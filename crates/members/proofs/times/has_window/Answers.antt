@@ -1,5 +1,4 @@
 -- `has_window` meets its contract. The loop: whether there is a window below e.
-use Prim.Native.Nat.{◌-◌}
 use native.Mathlib.Omega.{arith}
 use mathlib.Core.Path.{sym}
 use Rattle.plan.proofs.Loops.{none_zero}

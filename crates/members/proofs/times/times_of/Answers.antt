@@ -1,5 +1,4 @@
 -- `times_of` meets its contract. The loop: each set has the events below e that pass its test.
-use Prim.Native.Nat.{◌-◌}
 use mathlib.Core.Path.{sym, ◌∙◌}
 use Rattle.members.proofs.Clocking.{clocks_without, clocked_none, clocked_next}
 use Rattle.members.proofs.times.times_of.Goals as goal

@@ -1,5 +1,4 @@
 -- `facts_of` meets its contract. The loop: each set has the events below e that pass its test.
-use Prim.Native.Nat.{◌-◌}
 use Rattle.members.proofs.Views.{viewed_none, viewed_next}
 use Rattle.members.proofs.view.facts_of.Goals as goal
 

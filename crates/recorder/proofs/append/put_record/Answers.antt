@@ -1,5 +1,5 @@
 -- `put_record` meets its contract. The loop's invariant: the first i bytes are put.
-use Prim.Native.Nat.{◌+◌, ◌-◌}
+use Prim.Native.Nat.{◌+◌}
 use native.Mathlib.Omega.{arith}
 use mathlib.Core.Path.{◌≡◌, subst}
 use lib.ListN.{length, take}

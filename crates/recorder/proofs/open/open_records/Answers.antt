@@ -1,5 +1,4 @@
 -- `open_records` meets its contract. The loop's invariant is `Underway`.
-use Prim.Native.Nat.{◌-◌}
 use native.Mathlib.Omega.{arith}
 use mathlib.Core.Path.{refl, sym, ◌∙◌}
 use Rattle.recorder.proofs.OpenSteps.{record_less, refused, taken, ended, bad_ended}

@@ -3,7 +3,6 @@ use mathlib.Core.List.{◌++◌}
 use Rattle.scheduler.specs.Runner.{decimal, line}
 use Rattle.pages.proofs.Pages.{room_first, room_then, put_both}
 use Rattle.report.proofs.Splits.{events_lead, rules_lead, head_split}
-use borrow.Author.Rules.{rules}
 use Rattle.report.proofs.text.put_head.Goals as goal
 
 pub put_count-next-requires : goal.put_count-next-requires

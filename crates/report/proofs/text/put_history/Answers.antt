@@ -1,5 +1,4 @@
 -- `put_history` meets its contract. The loop's invariant: the lines before i are put.
-use Prim.Native.Nat.{◌-◌}
 use native.Mathlib.Omega.{arith}
 use mathlib.Core.Path.{sym}
 use Rattle.pages.proofs.Pages.{put_none, put_then, put_as}

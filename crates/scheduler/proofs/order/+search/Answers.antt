@@ -1,6 +1,5 @@
 -- `search` meets its contract. What falls: the places left.
 use native.Mathlib.Omega.{arith}
-use mathlib.Core.Bool.{Bool}
 use mathlib.Core.Path.{◌≡◌, refl, ◌∙◌, ap}
 use Prim.Native.Nat.{ℕ}
 use Rattle.scheduler.specs.declared.order.Found.{Found}
@@ -9,7 +8,7 @@ use Rattle.plan.specs.Fates.{is_open, done_as}
 use Rattle.scheduler.specs.State.{fate_of, settle_as}
 use Rattle.scheduler.specs.Orders.{do_one}
 use Rattle.scheduler.proofs.Sizes.{sized}
-use Rattle.scheduler.proofs.SearchLoops.{with_event, search_end, search_more, search_full, search_stuck, Onward, Took, search_took, shows_one}
+use Rattle.scheduler.proofs.SearchLoops.{with_event, search_end, search_more, search_full, search_stuck, Took, search_took, shows_one}
 use Rattle.scheduler.proofs.CallSteps.{fate_in}
 use Rattle.scheduler.proofs.order.+search.Goals as goal
 

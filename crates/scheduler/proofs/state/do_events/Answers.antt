@@ -1,5 +1,5 @@
 -- `do_events` meets its contract. The loop: what is left of the order and of its marks is still to settle.
-use Prim.Native.Nat.{◌+◌, ◌-◌}
+use Prim.Native.Nat.{◌+◌}
 use native.Mathlib.Omega.{arith}
 use borrow.Author.Tests.{lt-ltb, le-ltb}
 use mathlib.Core.Bool.{false}

@@ -3,7 +3,7 @@
 use Rattle.sheet.specs.Types.{Plan}
 use Rattle.sheet.proofs.RecordLaws.{add_next as next-added, all_added}
 use Rattle.sheet.proofs.PlanStored.{event_added}
-use Prim.Native.Nat.{◌+◌, ◌-◌}
+use Prim.Native.Nat.{◌+◌}
 use mathlib.Core.Path.{ap, ◌∙◌}
 use native.Mathlib.Omega.{arith}
 use lib.ListN.{get_or, drop}

@@ -1,14 +1,11 @@
 -- `read_sheet` meets its contract. A turn of the loop judges the record at the reader's place, moves the reader past it,
 -- and stores what it declares into the plan.
-use Rattle.std.proofs.Common.{◌≡◌, ◌<◌, ◌≤◌, refl, sym, ◌∙◌, ap, arith}
-use mathlib.Core.Bool.{false}
-use Rattle.plan.specs.Plans.{empty_plan, event_count, rule_count}
-use Rattle.plan.specs.Records.{declare, rule_of}
-use Rattle.sheet.specs.Types.{Event, RuleLine, Plan, Reader}
+use Rattle.std.proofs.Common.{◌<◌, ◌∙◌, ap, arith}
+use Rattle.plan.specs.Records.{rule_of}
+use Rattle.sheet.specs.Types.{Event, RuleLine, Reader}
 use Rattle.sheet.proofs.RecordLaws.{declare_event, declare_more, declare_rule}
-use Rattle.sheet.proofs.Reading.{Left, begins, turn_stops, turn_room, turn_less, turn_left}
+use Rattle.sheet.proofs.Reading.{begins, turn_stops, turn_room, turn_less, turn_left}
 use Rattle.sheet.proofs.PlanStored.{with_event, with_rule, event_added, rule_added}
-use Rattle.sheet.proofs.Rooms.{Room}
 use Rattle.sheet.proofs.read.read_sheet.Goals as goal
 
 pub loop-reader-init : goal.loop-reader-init

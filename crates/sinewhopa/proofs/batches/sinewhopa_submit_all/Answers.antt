@@ -1,12 +1,11 @@
 -- `sinewhopa_submit_all` meets its contract: the batch on the state that the bytes say, noted in the bytes.
-use Rattle.std.proofs.Common.{◌≡◌, sym, ◌∙◌, ap, length, List, ℕ}
-use Rattle.plan.specs.Faults.{answer_number}
+use Rattle.std.proofs.Common.{◌≡◌, ◌∙◌, length, List, ℕ}
 use Rattle.scheduler.specs.declared.state.State.{State}
 use Rattle.scheduler.specs.declared.reply.Reply.{Reply}
 use Rattle.batch.specs.declared.entry.BatchEntry.{BatchEntry}
 use Rattle.batch.specs.Batch.{batch_reply, batch_entries}
 use Rattle.batch.specs.Internal.Turns.{kept_state}
-use Rattle.batch.proofs.KeptBatches.{noted, OnBytes, on_bytes}
+use Rattle.batch.proofs.KeptBatches.{OnBytes, on_bytes}
 use Rattle.sinewhopa.proofs.batches.sinewhopa_submit_all.Goals as goal
 
 -- the batch on the state that was read

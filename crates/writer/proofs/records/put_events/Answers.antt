@@ -1,5 +1,4 @@
 -- `put_events` meets its contract. The loop's invariant: the first i events are put.
-use Prim.Native.Nat.{◌-◌}
 use native.Mathlib.Omega.{arith}
 use Rattle.writer.proofs.Putting.{events_none, events_next}
 use Rattle.writer.proofs.records.put_events.Goals as goal

@@ -1,5 +1,4 @@
 -- `put_rules` meets its contract. The loop's invariant: the first i rules are put.
-use Prim.Native.Nat.{◌-◌}
 use native.Mathlib.Omega.{arith}
 use Rattle.writer.proofs.Putting.{rules_none, rules_end, rules_next}
 use Rattle.writer.proofs.records.put_rules.Goals as goal

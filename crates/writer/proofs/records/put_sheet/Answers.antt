@@ -1,7 +1,6 @@
 -- `put_sheet` meets its contract.
 use native.Mathlib.Omega.{arith}
 use Rattle.writer.proofs.Putting.{events_end, rules_end, sheet_put}
-use borrow.Author.Rules.{rules}
 use Rattle.writer.proofs.records.put_sheet.Goals as goal
 
 pub put_rules-then-requires : goal.put_rules-then-requires

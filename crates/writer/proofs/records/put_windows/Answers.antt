@@ -1,5 +1,4 @@
 -- `put_windows` meets its contract. The loop's invariant: the windows of the first i events are put.
-use Prim.Native.Nat.{◌-◌}
 use native.Mathlib.Omega.{arith}
 use Rattle.writer.proofs.Putting.{times_none, times_end, times_next}
 use Rattle.writer.proofs.records.put_windows.Goals as goal

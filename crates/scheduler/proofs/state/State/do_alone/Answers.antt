@@ -1,6 +1,5 @@
 -- `State::do_alone` meets its contract. The loop: the rules below i that are strained are recorded, for every state with
 -- these rules, marks and views.
-use Prim.Native.Nat.{◌-◌}
 use native.Mathlib.Omega.{arith}
 use mathlib.Core.Bool.{Bool, true, false, not}
 use mathlib.Core.List.{List}

@@ -1,7 +1,6 @@
 -- `State::do_alone` meets its contract. The loop: the rules below i that are strained are recorded, for every state with
 -- these rules, marks and views.
 use Prim.Native.Nat.{◌≤◌, ◌-◌}
-use borrow.Author.Rules.{rules}
 use mathlib.Core.Path.{◌≡◌}
 use Rattle.scheduler.specs.Prelude.{Done, State}
 use Rattle.members.specs.Sets.{Shows}

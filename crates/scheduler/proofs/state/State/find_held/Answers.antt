@@ -1,6 +1,6 @@
 -- `State::find_held` meets its contract. The loop: what is left of it from e on is the whole answer, and the events that
 -- count no more as able have no order.
-use Prim.Native.Nat.{ℕ, ◌-◌}
+use Prim.Native.Nat.{ℕ}
 use native.Mathlib.Omega.{arith}
 use mathlib.Core.Bool.{Bool, true, ◌&&◌}
 use mathlib.Core.List.{List}

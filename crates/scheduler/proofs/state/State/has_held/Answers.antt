@@ -1,7 +1,5 @@
 -- `State::has_held` meets its contract. The loop: no event below e is held.
-use Prim.Native.Nat.{◌-◌}
 use native.Mathlib.Omega.{arith}
-use mathlib.Core.Bool.{false}
 use mathlib.Core.Path.{refl, sym, ◌∙◌, ap}
 use Rattle.scheduler.specs.Prelude.{Standing}
 use Rattle.plan.specs.Fates.{is_held, blank_standing, fates_of}

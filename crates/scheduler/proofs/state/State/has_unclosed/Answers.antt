@@ -1,7 +1,6 @@
 -- `State::has_unclosed` meets its contract. The loop: the step of every event below e is closed.
-use Prim.Native.Nat.{◌-◌}
 use native.Mathlib.Omega.{arith}
-use mathlib.Core.Bool.{true, false, not}
+use mathlib.Core.Bool.{not}
 use mathlib.Core.Path.{◌≡◌, ap}
 use Rattle.plan.specs.Base.{read_at}
 use Rattle.plan.specs.Plans.{blank_event}

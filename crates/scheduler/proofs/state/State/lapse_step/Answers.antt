@@ -1,5 +1,4 @@
 -- `State::lapse_step` meets its contract. The loop's invariant is `Lapsing`.
-use Prim.Native.Nat.{◌-◌}
 use borrow.Author.Tests.{lt-ltb, le-ltb}
 use mathlib.Core.Bool.{◌&&◌}
 use mathlib.Core.Path.{◌≡◌, sym, ◌∙◌, ap}

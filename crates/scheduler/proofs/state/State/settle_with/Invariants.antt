@@ -1,7 +1,5 @@
 -- `State::settle_with` meets its contract. The loop: the turns that are left settle the whole, the view is the
 -- state's, and so are the sets and arrays that stay.
-use Prim.Native.Nat.{◌-◌}
-use borrow.Author.Rules.{rules}
 use mathlib.Core.Path.{◌≡◌}
 use Rattle.plan.specs.Plans.{rule_count}
 use Rattle.members.specs.Sets.{Shows}

@@ -8,7 +8,6 @@ use Rattle.plan.proofs.Arrays.{read_in}
 use Rattle.scheduler.proofs.Branches.{submit_same}
 use Rattle.scheduler.proofs.Laws.{fate_past}
 use Rattle.scheduler.proofs.CallSteps.{fate_in, take_refused, take_accepted, submit_unknown, submit_known, submit_reply}
-use mathlib.Core.Bool.{not}
 use Rattle.scheduler.proofs.state.State.take_submit.Goals as goal
 
 pub returns-then-plan-event : goal.returns-then-plan-event
