@@ -1,8 +1,9 @@
-# Builds, tests and installs the library for hosts in C, C++ and other languages. `make help` lists the targets.
+# Builds, tests and installs the library for hosts in C, C++ and other languages, and builds the runner. `make help`
+# lists the targets.
 #
-# `rt` proves the crates and builds the archive. Make asks it to do so again when a source of theirs is newer than the
-# archive. The shared library is that archive linked whole; it exports the functions that the header declares and no
-# other. The version is read from the header.
+# `rt` proves the crates and builds the archive and the runner. Make asks it to do so again when a source of theirs is
+# newer than what was built. The shared library is that archive linked whole; it exports the functions that the header
+# declares and no other. The version is read from the header.
 
 PREFIX ?= /usr/local
 DESTDIR ?=
@@ -10,6 +11,7 @@ LIBDIR ?= $(PREFIX)/lib
 INCLUDEDIR ?= $(PREFIX)/include
 RT ?= rt
 NM ?= nm
+OBJCOPY ?= objcopy
 INSTALL ?= install
 
 header := include/sinewhopa.h
@@ -26,12 +28,15 @@ link_name := libsinewhopa.so
 soname := $(link_name).$(major)
 file_name := $(soname).$(minor)
 shared := $(built)/$(file_name)
+runner := target/bin/runner
+files_archive := target/staticlib/libfiles.a
+runner_with_status := target/runner
 
 # Folders are among the sources, so that a file which was removed is noticed too.
 sources := crates.txt $(shell find $(wildcard crates/*/src crates/*/specs crates/*/proofs))
 
 .DELETE_ON_ERROR:
-.PHONY: all archive shared test install uninstall help
+.PHONY: all archive shared runner test install uninstall help
 
 all: archive shared
 
@@ -39,10 +44,38 @@ archive: $(archive)
 
 shared: $(shared) $(built)/$(soname) $(built)/$(link_name)
 
+runner: $(runner) $(runner_with_status)
+
+has_rt = @command -v $(RT) >/dev/null || \
+    { echo '$@ is missing or older than its sources, and $(RT) is not here to build it' >&2; exit 1; }
+
 $(archive): $(sources)
-	@command -v $(RT) >/dev/null || \
-	    { echo '$@ is missing or older than its sources, and $(RT) is not here to build it' >&2; exit 1; }
-	$(RT) staticlib sinewhopa
+	$(has_rt)
+	cd crates/sinewhopa && $(RT) lib
+	@mkdir -p $(@D)
+	cp crates/sinewhopa/out/libsinewhopa.a $@
+
+# `rt run` proves and builds a program, and runs it: here on no files, which count as empty.
+$(runner): $(sources)
+	$(has_rt)
+	cd crates/runner && $(RT) run </dev/null >/dev/null
+	@mkdir -p $(@D)
+	cp crates/runner/out/runner $@
+
+# Rattle gives the system to the `main` of a program alone, and never to a function that C calls. So the function of
+# this archive is the whole program files_c, whose entry is renamed. It answers the exit status.
+$(files_archive): $(sources)
+	$(has_rt)
+	cd crates/files_c && $(RT) run </dev/null >/dev/null
+	@mkdir -p $(@D)
+	rm -f $@
+	$(OBJCOPY) --redefine-sym main=sinewhopa_files crates/files_c/out/files_c.o target/files_c.o
+	$(AR) rcs $@ target/files_c.o
+
+# The kit's C functions, which std calls, are linked beside it.
+$(runner_with_status): start/runner.c $(files_archive)
+	kit=$$(dirname "$$($(RT) doc)") && \
+	    $(CC) -Wall -Wextra -Werror $^ "$$kit/c/libos_c.a" "$$kit/c/liblibc_c.a" -o $@
 
 # The functions that the header declares, one name on a line.
 $(built)/functions: $(header) Makefile
@@ -90,9 +123,10 @@ uninstall:
 
 help:
 	@echo 'make            build $(archive) and $(shared)'
-	@echo 'make test       run the whole gate: prove everything from nothing and run every test'
+	@echo 'make runner     build the runner, $(runner), and as a C program with an exit status, $(runner_with_status)'
+	@echo 'make test       run the whole gate: prove everything and run every test'
 	@echo 'make install    install header, archive, shared library and sinewhopa.pc (needs no rt if all is built)'
 	@echo 'make uninstall  remove what install has installed'
 	@echo
 	@echo 'PREFIX=$(PREFIX)  LIBDIR=$(LIBDIR)  INCLUDEDIR=$(INCLUDEDIR)  DESTDIR=$(DESTDIR)'
-	@echo 'RT=$(RT)  CC=$(CC)  NM=$(NM)  LDFLAGS=$(LDFLAGS)'
+	@echo 'RT=$(RT)  CC=$(CC)  NM=$(NM)  OBJCOPY=$(OBJCOPY)  LDFLAGS=$(LDFLAGS)'

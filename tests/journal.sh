@@ -13,7 +13,7 @@ kills=40
 journal=$PWD/target/journal
 sources=$PWD/examples/journal
 if [ ! -f "$archive" ]; then
-    echo "no archive at $archive: run rt staticlib sinewhopa" >&2
+    echo "no archive at $archive: run make archive" >&2
     exit 1
 fi
 

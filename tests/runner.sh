@@ -15,7 +15,7 @@ trap 'rm -rf "$folder"' EXIT
 cp "$runner" "$folder/runner"
 chmod 755 "$folder" "$folder/runner"
 
-# The status after a failure: 1 of the C program, 0 of a program of the kit, which has no exit status of its own.
+# The status after a failure: 0 of `runner`, which always ends with it, 1 of the program with a status.
 failed=${2:-0}
 
 case_a='events 2 rules 2
@@ -141,5 +141,5 @@ expect 'the output is full' $failed '' 'standard output: No space left on device
 expect 'the output is closed' $failed '' 'standard output: Bad file descriptor' onto_closed
 expect 'the output takes 24 bytes' $failed "${case_a:0:24}" 'standard output: File too large' onto_last_bytes
 expect 'nobody reads the output, and the signal is ignored' $failed '' 'standard output: Broken pipe' onto_pipe ignore
-# 128 and the signal's number: the system ends the program.
-expect 'nobody reads the output' 141 '' '' onto_pipe default
+# The kit has each program ignore the signal, so it is the same where the signal was at its default.
+expect 'nobody reads the output' $failed '' 'standard output: Broken pipe' onto_pipe default

@@ -10,7 +10,7 @@ seed=${2:-31}
 plans=60
 store=target/store
 if [ ! -f "$archive" ]; then
-    echo "no archive at $archive: run rt staticlib sinewhopa" >&2
+    echo "no archive at $archive: run make archive" >&2
     exit 1
 fi
 

@@ -19,7 +19,7 @@ fn main() {
     if !archive.is_file() {
         let looked = archive.display();
         eprintln!(
-            "no {looked}: build it with `rt staticlib sinewhopa`, or set {FOLDER} to its folder"
+            "no {looked}: build it with `make archive`, or set {FOLDER} to its folder"
         );
         exit(1);
     }
