@@ -1,4 +1,4 @@
--- What the contract of the exported function cites.
+-- What the contract of `sinewhopa_files` cites.
 use Rattle.std.specs.Prelude.{◌≤◌, ℤ, pos, negsuc}
 
 -- an exit status of the program: 0, or 1 where a file or the report failed [13.1]
