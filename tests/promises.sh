@@ -7,7 +7,7 @@ cd "$(dirname "$0")/.."
 
 # Each public function from its name to the brace that opens its body.
 promises() {
-    find crates -path '*/src/*.rt' | LC_ALL=C sort | xargs awk '
+    find crates/*/src -name '*.rt' | LC_ALL=C sort | xargs awk '
         FNR == 1 { said = 0; inside = 0 }
         /^ *pub (extern "C" )?fn / { inside = 1; if (!said) { print "== " FILENAME; said = 1 } }
         inside { print }
