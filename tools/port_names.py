@@ -9,6 +9,7 @@ must-fail edits and in comments only names of two words without a dash are chang
 """
 import os
 import re
+import sys
 
 HERE = os.path.dirname(os.path.realpath(__file__))
 # A name of antt: all between blanks, brackets, dots, commas and the like.
@@ -113,4 +114,6 @@ def main():
                 f.write(out)
 
 
+if len(sys.argv) > 1:
+    sys.exit(__doc__)
 main()

@@ -1,4 +1,4 @@
--- A report is short: `report-within` and `report-short`, for an outcome whose numbers fit their types. `small` has
+-- A report is short: `report_within` and `report_short`, for an outcome whose numbers fit their types. `small` has
 -- that of an outcome that code holds.
 use Prim.Native.Nat.{ℕ, zero, suc, ◌+◌, ◌*◌, ◌/◌, ◌≤◌, ◌<◌}
 use native.Mathlib.Omega.{arith}

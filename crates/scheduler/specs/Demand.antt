@@ -82,7 +82,7 @@ waits_as true = Held
 waits_as false = Open
 
 -- e's fate, as the history and the accepted calls show it: that of its line; without a line, held if e was submitted,
--- else open (11.6). A line that said open or held would not settle its event; `coherent-end` says that no history has
+-- else open (11.6). A line that said open or held would not settle its event; `coherent_end` says that no history has
 -- one
 unfoldable pub observed_fate : Observed → ℕ → Fate
 observed_fate o e = elim (fates_in o.history e) [ x ∷ xs ↦ x | [] ↦ waits_as (was_submitted o e) ]
@@ -113,7 +113,7 @@ starts_done (l ∷ ls) e = eqb l.event e && is_done l.fate
 
 -- a submit of e, with history h after it, did e alone: e was open, it had no viable order, and the first new line says
 -- that e is done (11.7). Shown right by `shown` of demand 3: the calls record exactly what is read off so. Without the
--- test for an order the scheduler of `not-orderless-alone` (theory/WorthlessClauses) would pass
+-- test for an order the scheduler of `not_orderless_alone` (theory/WorthlessClauses) would pass
 unfoldable pub done_alone : Plan → Observed → ℕ → List Entry → Bool
 done_alone p o e h =
     is_open (observed_fate o e)

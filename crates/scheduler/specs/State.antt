@@ -64,7 +64,7 @@ hold s e = record {
 }
 
 -- an event is settled: its fate is written and its line is added to the history (5.7). The line count stops at 16. That
--- stop is never reached: `len-then` in theory/HistoryInvariant says that settling an unsettled event adds exactly one
+-- stop is never reached: `len_then` in theory/HistoryInvariant says that settling an unsettled event adds exactly one
 -- line
 unfoldable pub settle_as : Fate → State → ℕ → State
 settle_as x s e = record {

@@ -86,7 +86,7 @@ unfolding shown_by owes holds done_in any_done order_of first_of chosen orderles
 not_orderless_alone k =
     clash refl (ap (λ (s : State). broken_at s 0) (k need_forced need_first (Submit 0 ∷ []) read_forced).claim.shown)
 
--- coherent-end: holds an event that cannot wait; nothing else of demand 3 sees it, as it has no viable order
+-- coherent_end: holds an event that cannot wait; nothing else of demand 3 sees it, as it has no viable order
 abbrev need_at_once : List ℕ
 need_at_once = 1 ∷ 0 ∷ 2 ∷ 1 ∷ 1 ∷ 6 ∷ 3 ∷ 0 ∷ 1 ∷ 5 ∷ []
 

@@ -71,7 +71,7 @@ module _ (u : State) (unruled : rule_count u.plan ≡ 0) (untimed : u.plan.windo
     );
   }
 
--- by-submission, no viable order: refuses an event that is rejectable and cannot wait, though it could be done
+-- by_submission, no viable order: refuses an event that is rejectable and cannot wait, though it could be done
 abbrev able_first : State
 able_first = first_state (add_event empty_plan 0 2)
 
@@ -147,7 +147,7 @@ module _
             let is : rule_at u.plan i ≡ Need 0 1 = ap (rule_at u.plan) first ∙ ap (λ (p : Plan). rule_at p 0) need_plan in
             and_false (stands u i) _ (ap (λ r. bars u.plan (fate_of u) r 0) is ∙ need_possible)
 
--- by-submission, cannot wait: refuses an event that can wait, while what it needs may still come
+-- by_submission, cannot wait: refuses an event that can wait, while what it needs may still come
 abbrev need_fresh : State
 need_fresh = first_state need_held.plan
 
@@ -166,7 +166,7 @@ not_refuser_waits g =
     no_ground u r z (by_submission q h d j n) = clash (ap (λ (p : Plan). delayable p 0) (trail_plan r)) d
     no_ground u r z (by_finish q l rest) = let w : ◌≡◌ {A = ℕ} 0 1 = cc in omega arith
 
--- by-finish, in a winding up only: refuses what is held when a step is closed
+-- by_finish, in a winding up only: refuses what is held when a step is closed
 abbrev pub quitter : Scheduler
 quitter s (Submit e) = scheduler s (Submit e)
 quitter s (Close k) = settle_as Refused s 0
@@ -191,7 +191,7 @@ not_quitter g =
     no_ground u r (by_submission q h d j n) = let w : ◌≡◌ {A = ℕ} 0 1 = cc in omega arith
     no_ground u r (by_finish q l rest) = let w : ◌≡◌ {A = ℕ} 0 1 = cc in omega arith
 
--- by-finish, at rest: winds up by refusing an event that could be done
+-- by_finish, at rest: winds up by refusing an event that could be done
 abbrev pub abrupt : Scheduler
 abrupt s (Submit e) = scheduler s (Submit e)
 abrupt s (Close k) = scheduler s (Close k)
@@ -221,7 +221,7 @@ not_abrupt g =
         (0 ∷ [])
         (free_viable u (ap rule_count (trail_plan r)) (ap (λ (p : Plan). p.windows) (trail_plan r)) 0 l.declared l.is)
 
--- by-finish, the lowest: winds up by refusing the highest held event first, where each waits for the other
+-- by_finish, the lowest: winds up by refusing the highest held event first, where each waits for the other
 abbrev pub topdown : Scheduler
 topdown s (Submit e) = scheduler s (Submit e)
 topdown s (Close k) = scheduler s (Close k)

@@ -1,5 +1,5 @@
 -- Demand 2 whole, for any scheduler: exactly what an accepted call gives, call by call. Only one scheduler has this
--- property (`exact-only`). Also: which events may be refused at all.
+-- property (`exact_only`). Also: which events may be refused at all.
 use Rattle.std.specs.Prelude.{ℕ, ◌<◌, true, false, List, ◌⊎◌, ◌≡◌}
 use Rattle.std.proofs.Math.Option.{none, some}
 use Rattle.plan.specs.declared.fate.Fate.TheVariants.{Open, Refused, Lapsed}

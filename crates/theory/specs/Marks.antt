@@ -47,8 +47,8 @@ forget_reply r = record { answer = forget_answer r.answer; state = forget r.stat
 
 -- the marks of a state are right: for each declared event, forgetting them does not change whether the history lists
 -- the event just as its fate asks. They are wrong where a line says done of a forced event, or the other way round
--- (11.18). Shown right by `right-alike` (then marks decide nothing), `coherent-right` (every coherent state has right
--- marks) and `marks-wrong` (a state without right marks, where they do decide), all in proofs/MarkedCalls
+-- (11.18). Shown right by `right_alike` (then marks decide nothing), `coherent_right` (every coherent state has right
+-- marks) and `marks_wrong` (a state without right marks, where they do decide), all in proofs/MarkedCalls
 abbrev pub MarksRight : State → Type 0
 MarksRight s = (e : ℕ)
     → e < event_count s.plan
@@ -77,7 +77,7 @@ pub record ListAlike (s : State) (cs : List Call) : Type 0 where
 
 -- how call c forces e, which is forcible and open before the call: in some state that the call reaches, the chosen
 -- order of a held event contains e, and e is open when its turn comes (12.6). Shown right by `forces` (proofs/Forcing)
--- and by what it turns away: `not-forcer` and `not-unmarked` (proofs/Worthless)
+-- and by what it turns away: `not_forcer` and `not_unmarked` (proofs/Worthless)
 pub record ForcedBy (c : Call) (s : State) (e : ℕ) : Type 0 where
   pub fresh : fate_of s e ≡ Open
   pub may : forcible s.plan e ≡ true
