@@ -1,6 +1,7 @@
 -- Number 12 of the parts of a state: a plan, the fates of its events, which rules are recorded as broken and which steps
 -- are closed, and a history with its length.
-use Rattle.coherence.specs.Prelude.{ℕ, Bool, false, not, ◌&&◌, ◌||◌, List, eqb, ltb, leb, Rule, Order, Need, Conditional, Window, Plan, Entry}
+use Rattle.std.specs.Prelude.{◌&&◌, ◌||◌}
+use Rattle.coherence.specs.Prelude.{ℕ, Bool, false, not, List, eqb, ltb, leb, Rule, Order, Need, Conditional, Window, Plan, Entry}
 use Rattle.plan.specs.Base.{all_below, read_at}
 use Rattle.plan.specs.Fates.{Fates, is_open, is_held, is_settled}
 use Rattle.plan.specs.Plans.{event_count, rule_count, step_of, rule_at, holds_bit, forcible, delayable}

@@ -1,5 +1,6 @@
 -- What one pass over the lines of a history tells of its events.
-use Rattle.coherence.specs.Prelude.{ℕ, Bool, true, false, not, ◌&&◌, List, ◌≡◌, ltb, Entry, Listing}
+use Rattle.std.specs.Prelude.{◌&&◌, ◌≡◌}
+use Rattle.coherence.specs.Prelude.{ℕ, Bool, true, false, not, List, ltb, Entry, Listing}
 use Rattle.plan.specs.Base.{all_below, read_at}
 use Rattle.plan.specs.Fates.{Fates, is_settled}
 use Rattle.plan.specs.Histories.{done_in, done_in_turn, declared_only, listed_as}

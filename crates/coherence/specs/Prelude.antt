@@ -1,5 +1,5 @@
 -- The names that the definitions use: the library's, and the types that `plan` and this crate declare.
-pub use Rattle.std.specs.Prelude.{ℕ, Bool, true, false, not, ◌&&◌, ◌||◌, List, ◌≡◌, eqb, ltb, leb}
+pub use Rattle.std.specs.Prelude.{ℕ, Bool, true, false, not, List, eqb, ltb, leb}
 pub use Rattle.plan.specs.declared.fate.Fate.{Fate}
 pub use Rattle.plan.specs.declared.fate.Fate.TheVariants.{Open}
 pub use Rattle.plan.specs.declared.fate.Standing.{Standing}

@@ -1,5 +1,6 @@
 -- How the least closed set is found: members that lie in every closed set that would do, and more until they are closed.
-use Rattle.members.specs.Prelude.{ℕ, ◌+◌, ◌≤◌, ◌<◌, Bool, true, false, not, ◌&&◌, ◌||◌, ◌⊎◌, ◌≡◌, eqb, Rule, Plan, Members}
+use Rattle.std.specs.Prelude.{◌+◌, ◌≤◌, ◌<◌, ◌&&◌, ◌||◌, ◌⊎◌, ◌≡◌}
+use Rattle.members.specs.Prelude.{ℕ, Bool, true, false, not, eqb, Rule, Plan, Members}
 use Rattle.plan.specs.Base.{count_below}
 use Rattle.plan.specs.Fates.{Fates, is_settled}
 use Rattle.orders.specs.Closed.{Events, Closed, Fit, Least, asks, target}

@@ -1,5 +1,6 @@
 -- Events at hand that a single rule shows to be hopeless: it asks for one that is not at hand.
-use Rattle.members.specs.Prelude.{ℕ, Bool, true, false, not, ◌&&◌, ◌≡◌, eqb, Rule, Order, Need, Conditional, Plan}
+use Rattle.std.specs.Prelude.{◌&&◌, ◌≡◌}
+use Rattle.members.specs.Prelude.{ℕ, Bool, true, false, not, eqb, Rule, Order, Need, Conditional, Plan}
 use Rattle.plan.specs.Fates.{Fates, is_settled}
 use Rattle.plan.specs.Plans.{delayable}
 use Rattle.orders.specs.Closed.{Events}

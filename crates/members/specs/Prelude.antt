@@ -1,5 +1,5 @@
 -- The names that the definitions use: the library's, and the types that the crates below and this one declare.
-pub use Rattle.std.specs.Prelude.{ℕ, zero, suc, ◌+◌, ◌/◌, ◌^◌, ◌≤◌, ◌<◌, Bool, true, false, not, ◌&&◌, ◌||◌, List, ◌⊎◌, ◌≡◌, eqb, ltb}
+pub use Rattle.std.specs.Prelude.{ℕ, zero, suc, Bool, true, false, not, List, eqb, ltb}
 pub use Rattle.std.proofs.Math.Option.{Option, none, some}
 pub use Rattle.std.specs.Int.Bits.{bit_and}
 pub use Rattle.plan.specs.declared.fate.Fate.{Fate}

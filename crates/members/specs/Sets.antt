@@ -1,5 +1,6 @@
 -- Sets of the sixteen events as the bits of a number.
-use Rattle.members.specs.Prelude.{ℕ, ◌/◌, ◌^◌, Bool, false, not, ◌&&◌, List, Option, none, some, ◌≡◌, bit_and, eqb, ltb, Standing, Event, Plan, View, Facts}
+use Rattle.std.specs.Prelude.{◌/◌, ◌^◌, ◌&&◌, ◌≡◌}
+use Rattle.members.specs.Prelude.{ℕ, Bool, false, not, List, Option, none, some, bit_and, eqb, ltb, Standing, Event, Plan, View, Facts}
 use Rattle.plan.specs.Base.{read_at}
 use Rattle.plan.specs.Fates.{Fates, fates_of, is_open, is_held, is_done, is_gone}
 use Rattle.plan.specs.Plans.{blank_event, holds_bit, event_count, forcible, delayable}

@@ -1,5 +1,6 @@
 -- The windows in the sixteen places of an array: whether there is one, and what sets say of them at a minute.
-use Rattle.members.specs.Prelude.{ℕ, Bool, ◌&&◌, List, ◌≡◌, ltb, Window, Times}
+use Rattle.std.specs.Prelude.{◌&&◌, ◌≡◌}
+use Rattle.members.specs.Prelude.{ℕ, Bool, List, ltb, Window, Times}
 use Rattle.plan.specs.Base.{any_below, read_at}
 use Rattle.plan.specs.Plans.{blank_window, is_window, allowed_in, over_in}
 use Rattle.members.specs.Sets.{in_set}

@@ -1,5 +1,6 @@
 -- Closed sets of events: a set is closed if it has every event that a standing rule asks for.
-use Rattle.orders.specs.Prelude.{ℕ, ◌≤◌, ◌<◌, Bool, true, false, ◌&&◌, ◌||◌, ◌⊎◌, ◌≡◌, Rule, Order, Need, Conditional, Plan}
+use Rattle.std.specs.Prelude.{◌≤◌, ◌<◌, ◌&&◌, ◌||◌, ◌⊎◌, ◌≡◌}
+use Rattle.orders.specs.Prelude.{ℕ, Bool, true, false, Rule, Order, Need, Conditional, Plan}
 use Rattle.plan.specs.Base.{count_below}
 use Rattle.plan.specs.Fates.{Fates, is_done, is_settled}
 use Rattle.plan.specs.Plans.{rule_count, rule_at, delayable}

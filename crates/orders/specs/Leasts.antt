@@ -1,5 +1,6 @@
 -- The least closed set of an event, found by passes over the rules.
-use Rattle.orders.specs.Prelude.{ℕ, zero, suc, Bool, not, ◌&&◌, ◌||◌, eqb, Plan}
+use Rattle.std.specs.Prelude.{◌&&◌, ◌||◌}
+use Rattle.orders.specs.Prelude.{ℕ, zero, suc, Bool, not, eqb, Plan}
 use Rattle.plan.specs.Fates.{Fates, is_settled}
 use Rattle.plan.specs.Plans.{rule_count, rule_at}
 use Rattle.orders.specs.Closed.{Events, target, asks}

@@ -1,5 +1,6 @@
 -- Orders over a plan, the rules that stand and the fates: what stops an event, what is owed, and runs.
-use Rattle.orders.specs.Prelude.{ℕ, ◌<◌, Bool, true, false, cond, List, [], ◌∷◌, ◌≡◌, eqb, Rule, Order, Need, Conditional, Plan}
+use Rattle.std.specs.Prelude.{◌<◌, ◌∷◌, ◌≡◌}
+use Rattle.orders.specs.Prelude.{ℕ, Bool, true, false, cond, List, [], eqb, Rule, Order, Need, Conditional, Plan}
 use Rattle.plan.specs.Fates.{Fates, is_open, is_done, is_gone, is_settled, done_as}
 use Rattle.plan.specs.Plans.{event_count, delayable}
 use Rattle.plan.specs.Rules.{ready, reckoned}

@@ -1,5 +1,6 @@
 -- Lists of events compared from the front.
-use Rattle.orders.specs.Prelude.{ℕ, ◌<◌, List, [], ◌∷◌, ◌⊎◌, ◌≡◌}
+use Rattle.std.specs.Prelude.{◌<◌, ◌∷◌, ◌⊎◌, ◌≡◌}
+use Rattle.orders.specs.Prelude.{ℕ, List, []}
 
 -- compared from the front, o comes before q or is q (7.5)
 abbrev pub Ahead : List ℕ → List ℕ → Type 0

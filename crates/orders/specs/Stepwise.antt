@@ -1,5 +1,6 @@
 -- The order of a set of events that always takes the lowest event which may come next.
-use Rattle.orders.specs.Prelude.{ℕ, zero, suc, Bool, true, false, not, ◌&&◌, ◌||◌, List, [], ◌∷◌, Option, none, some, map_option, eqb, Rule, Order, Need, Conditional, Plan}
+use Rattle.std.specs.Prelude.{◌&&◌, ◌||◌, ◌∷◌}
+use Rattle.orders.specs.Prelude.{ℕ, zero, suc, Bool, true, false, not, List, [], Option, none, some, map_option, eqb, Rule, Order, Need, Conditional, Plan}
 use Rattle.plan.specs.Base.{any_below, when, lowest}
 use Rattle.plan.specs.Fates.{Fates}
 use Rattle.plan.specs.Plans.{rule_count, rule_at, delayable}

@@ -1,6 +1,7 @@
 -- Tests over the numbers below a bound, the first number that gives a result, and arrays that can be read and written
 -- at any index.
-use Rattle.plan.specs.Prelude.{ℕ, zero, suc, ◌+◌, Bool, true, false, ◌&&◌, ◌||◌, cond, List, [], ◌∷◌, Option, none, some, eqb, ltb, get_or, set}
+use Rattle.std.specs.Prelude.{◌+◌, ◌&&◌, ◌||◌, ◌∷◌}
+use Rattle.plan.specs.Prelude.{ℕ, zero, suc, Bool, true, false, cond, List, [], Option, none, some, eqb, ltb, get_or, set}
 
 -- some i < n passes the test
 unfoldable pub any_below : ℕ → (ℕ → Bool) → Bool

@@ -1,5 +1,6 @@
 -- Call records: the bytes of a call, and the calls that bytes list.
-use Rattle.plan.specs.Prelude.{ℕ, zero, suc, ◌/◌, ◌%◌, Bool, true, false, List, [], ◌∷◌, ◌++◌, eqb, ltb, drop, length, Call, Submit, Close, Finish, Advance, CallRead, Listed, End, Bad}
+use Rattle.std.specs.Prelude.{◌/◌, ◌%◌, ◌∷◌, ◌++◌}
+use Rattle.plan.specs.Prelude.{ℕ, zero, suc, Bool, true, false, List, [], eqb, ltb, drop, length, Call, Submit, Close, Finish, Advance, CallRead, Listed, End, Bad}
 use Rattle.plan.specs.Records.{word_at}
 
 -- a number as four bytes, the lowest first (3.5)

@@ -1,5 +1,6 @@
 -- Fates, and the array that holds one for each event.
-use Rattle.plan.specs.Prelude.{ℕ, Bool, true, false, ◌||◌, List, eqb, Fate, Open, Held, Done, Refused, Lapsed, Forced, Standing}
+use Rattle.std.specs.Prelude.{◌||◌}
+use Rattle.plan.specs.Prelude.{ℕ, Bool, true, false, List, eqb, Fate, Open, Held, Done, Refused, Lapsed, Forced, Standing}
 use Rattle.plan.specs.Base.{read_at}
 
 -- the fate is open (5.1)

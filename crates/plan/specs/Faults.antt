@@ -1,5 +1,6 @@
 -- Why a sheet or a call is turned down, what a call answers, and the first row of a table that applies.
-use Rattle.plan.specs.Prelude.{ℕ, Bool, true, false, List, [], ◌∷◌, Option, none, some, SheetFault, Cut, BadKind, Full, BadStep, BadAttributes, BadNames, Unenforceable, Extra, BadWindow, CallFault, Unknown, AlreadyClosed, NotClosed, Incoherent, TooLong, NoRoom, Backward, Answer, Is, Made, TurnedDown, FateAnswered}
+use Rattle.std.specs.Prelude.{◌∷◌}
+use Rattle.plan.specs.Prelude.{ℕ, Bool, true, false, List, [], Option, none, some, SheetFault, Cut, BadKind, Full, BadStep, BadAttributes, BadNames, Unenforceable, Extra, BadWindow, CallFault, Unknown, AlreadyClosed, NotClosed, Incoherent, TooLong, NoRoom, Backward, Answer, Is, Made, TurnedDown, FateAnswered}
 
 -- the number of each fault for which a sheet is turned down (4.2)
 abbrev pub sheet_fault_number : SheetFault → ℕ

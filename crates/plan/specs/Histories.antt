@@ -1,5 +1,6 @@
 -- Histories: what their lines say of events, and when a rule holds of a history.
-use Rattle.plan.specs.Prelude.{ℕ, Bool, true, false, not, ◌&&◌, ◌||◌, List, [], ◌∷◌, ◌++◌, eqb, ltb, Fate, Open, Rule, Order, Need, Conditional, Entry}
+use Rattle.std.specs.Prelude.{◌&&◌, ◌||◌, ◌∷◌, ◌++◌}
+use Rattle.plan.specs.Prelude.{ℕ, Bool, true, false, not, List, [], eqb, ltb, Fate, Open, Rule, Order, Need, Conditional, Entry}
 use Rattle.plan.specs.Fates.{is_done, is_settled, same_fate}
 
 -- what an unused place holds

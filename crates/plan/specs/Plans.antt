@@ -1,5 +1,6 @@
 -- What a sheet declares: events with their step and attributes, rules, and windows.
-use Rattle.plan.specs.Prelude.{ℕ, ◌/◌, ◌%◌, Bool, not, ◌&&◌, ◌||◌, eqb, ltb, leb, replicate, Event, Rule, Order, RuleLine, Window, Plan}
+use Rattle.std.specs.Prelude.{◌/◌, ◌%◌, ◌&&◌, ◌||◌}
+use Rattle.plan.specs.Prelude.{ℕ, Bool, not, eqb, ltb, leb, replicate, Event, Rule, Order, RuleLine, Window, Plan}
 use Rattle.plan.specs.Base.{any_below, read_at}
 
 -- what an unused place holds

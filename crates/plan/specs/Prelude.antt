@@ -1,5 +1,5 @@
 -- The names that the definitions use: those of the library, passed on unchanged, and the types that the code declares.
-pub use Rattle.std.specs.Prelude.{ℕ, zero, suc, ◌+◌, ◌*◌, ◌/◌, ◌%◌, ◌≤◌, ◌<◌, Bool, true, false, not, ◌&&◌, ◌||◌, cond, List, [], ◌∷◌, ◌++◌, eqb, ltb, leb, length, get_or, take, drop, set, replicate}
+pub use Rattle.std.specs.Prelude.{ℕ, zero, suc, Bool, true, false, not, cond, List, [], eqb, ltb, leb, length, get_or, take, drop, set, replicate}
 pub use Rattle.std.proofs.Math.Option.{Option, none, some}
 pub use Rattle.plan.specs.declared.fate.Fate.{Fate}
 pub use Rattle.plan.specs.declared.fate.Fate.TheVariants.{Open, Held, Done, Refused, Lapsed, Forced}

@@ -1,5 +1,6 @@
 -- A sheet's records: their bytes, what they declare, and the tests that turn them down.
-use Rattle.plan.specs.Prelude.{ℕ, ◌+◌, ◌*◌, Bool, true, false, not, ◌&&◌, ◌||◌, List, [], ◌∷◌, Option, eqb, ltb, leb, get_or, Rule, Order, Need, Conditional, Plan, Record, SheetFault, Cut, BadKind, Full, BadStep, BadAttributes, BadNames, Unenforceable, BadWindow}
+use Rattle.std.specs.Prelude.{◌+◌, ◌*◌, ◌&&◌, ◌||◌, ◌∷◌}
+use Rattle.plan.specs.Prelude.{ℕ, Bool, true, false, not, List, [], Option, eqb, ltb, leb, get_or, Rule, Order, Need, Conditional, Plan, Record, SheetFault, Cut, BadKind, Full, BadStep, BadAttributes, BadNames, Unenforceable, BadWindow}
 use Rattle.plan.specs.Base.{store_at}
 use Rattle.plan.specs.Plans.{event_count, rule_count}
 use Rattle.plan.specs.Rules.{bad_step, bad_attributes, bad_window, named, enforceable}

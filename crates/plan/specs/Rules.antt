@@ -1,5 +1,6 @@
 -- Rules: which of them a sheet may declare, and what they forbid and owe, by the plan and the fates of its events.
-use Rattle.plan.specs.Prelude.{ℕ, Bool, false, not, ◌&&◌, ◌||◌, eqb, ltb, leb, Rule, Order, Need, Conditional, Plan}
+use Rattle.std.specs.Prelude.{◌&&◌, ◌||◌}
+use Rattle.plan.specs.Prelude.{ℕ, Bool, false, not, eqb, ltb, leb, Rule, Order, Need, Conditional, Plan}
 use Rattle.plan.specs.Base.{all_below}
 use Rattle.plan.specs.Fates.{Fates, is_open, is_held, is_done, is_gone, is_settled}
 use Rattle.plan.specs.Plans.{event_count, step_of, attributes_of, from_of, until_of, has_window, rule_at, holds_bit, forcible, rejectable, delayable}

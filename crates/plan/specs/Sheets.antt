@@ -1,5 +1,6 @@
 -- Reading the plan of a sheet.
-use Rattle.plan.specs.Prelude.{ℕ, zero, suc, ◌+◌, true, false, List, none, some, eqb, ltb, get_or, length, Plan, SheetFault, Cut, Extra}
+use Rattle.std.specs.Prelude.{◌+◌}
+use Rattle.plan.specs.Prelude.{ℕ, zero, suc, true, false, List, none, some, eqb, ltb, get_or, length, Plan, SheetFault, Cut, Extra}
 use Rattle.plan.specs.Plans.{empty_plan}
 use Rattle.plan.specs.Records.{body_length, record_at, declare, record_fault}
 

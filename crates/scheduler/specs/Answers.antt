@@ -1,5 +1,6 @@
 -- A call: when it is turned down, and what it answers.
-use Rattle.scheduler.specs.Prelude.{ℕ, Bool, true, false, not, ◌&&◌, List, [], ◌∷◌, Option, none, some, ltb, leb, State, Call, Submit, Close, Finish, Advance, CallFault, Unknown, AlreadyClosed, NotClosed, Incoherent, Backward, Is, Made, TurnedDown, Reply}
+use Rattle.std.specs.Prelude.{◌&&◌, ◌∷◌}
+use Rattle.scheduler.specs.Prelude.{ℕ, Bool, true, false, not, List, [], Option, none, some, ltb, leb, State, Call, Submit, Close, Finish, Advance, CallFault, Unknown, AlreadyClosed, NotClosed, Incoherent, Backward, Is, Made, TurnedDown, Reply}
 use Rattle.plan.specs.Base.{any_below}
 use Rattle.plan.specs.Fates.{is_open, is_held}
 use Rattle.plan.specs.Plans.{event_count, has_event}

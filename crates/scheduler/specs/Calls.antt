@@ -1,5 +1,6 @@
 -- Settling, and the four calls: submit (hand in), close a step, finish (wind up), advance (move the minute).
-use Rattle.scheduler.specs.Prelude.{ℕ, zero, suc, ◌<◌, Bool, true, false, ◌&&◌, List, Option, none, some, map_option, ◌≡◌, eqb, Held, Done, Refused, Lapsed, State}
+use Rattle.std.specs.Prelude.{◌<◌, ◌&&◌, ◌≡◌}
+use Rattle.scheduler.specs.Prelude.{ℕ, zero, suc, Bool, true, false, List, Option, none, some, map_option, eqb, Held, Done, Refused, Lapsed, State}
 use Rattle.plan.specs.Base.{first_of, when, lowest}
 use Rattle.plan.specs.Fates.{is_open, is_held}
 use Rattle.plan.specs.Plans.{event_count, rule_count, step_of, rejectable, delayable}

@@ -1,5 +1,6 @@
 -- When a state is coherent. On a state that is not, every call is turned down with number 12.
-use Rattle.scheduler.specs.Prelude.{ℕ, Bool, not, ◌&&◌, ◌||◌, leb, State}
+use Rattle.std.specs.Prelude.{◌&&◌, ◌||◌}
+use Rattle.scheduler.specs.Prelude.{ℕ, Bool, not, leb, State}
 use Rattle.plan.specs.Base.{all_below}
 use Rattle.plan.specs.Fates.{is_open, is_held}
 use Rattle.plan.specs.Plans.{event_count, rule_count, step_of, rule_at, delayable}

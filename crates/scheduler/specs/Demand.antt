@@ -1,6 +1,7 @@
 -- The guarantee (demand 3), for any scheduler. It is read off the plan, the calls and the history after each call. It
 -- cites the rules and `Viable`, but not the search in Orders.antt and not the calls in Calls.antt.
-use Rattle.scheduler.specs.Prelude.{ℕ, ◌≤◌, ◌<◌, Bool, true, false, not, ◌&&◌, ◌||◌, List, [], ◌∷◌, ◌++◌, ◌≡◌, eqb, ltb, leb, length, get_or, drop}
+use Rattle.std.specs.Prelude.{◌≤◌, ◌<◌, ◌&&◌, ◌||◌, ◌∷◌, ◌++◌, ◌≡◌}
+use Rattle.scheduler.specs.Prelude.{ℕ, Bool, true, false, not, List, [], eqb, ltb, leb, length, get_or, drop}
 use Rattle.scheduler.specs.Prelude.{Fate, Open, Held, Rule, Order, Need, Conditional, Plan, Entry, State, Call, Submit, Close, Finish, Advance}
 use Rattle.plan.specs.Base.{all_below, those_below, among, tabulate}
 use Rattle.plan.specs.Fates.{is_open, is_done, is_settled}

@@ -1,5 +1,6 @@
 -- Demand 2's doing, for any scheduler: a call does all that can be done, and undoes nothing.
-use Rattle.scheduler.specs.Prelude.{ℕ, none, some, ◌≡◌, Open, State, Call, Submit, CallFault}
+use Rattle.std.specs.Prelude.{◌≡◌}
+use Rattle.scheduler.specs.Prelude.{ℕ, none, some, Open, State, Call, Submit, CallFault}
 use Rattle.scheduler.specs.State.{fate_of, lines, Sized}
 use Rattle.scheduler.specs.Calls.{AtRest}
 use Rattle.scheduler.specs.Answers.{call_fault}

@@ -1,5 +1,6 @@
 -- Demand 2's grounds, for any scheduler: a call is a chain of writes, and each of them has its ground (section 12)
-use Rattle.scheduler.specs.Prelude.{ℕ, ◌≤◌, true, false, List, ◌≡◌, Open, Held, Refused, Lapsed, State, Call, Submit, Close, Finish, Advance}
+use Rattle.std.specs.Prelude.{◌≤◌, ◌≡◌}
+use Rattle.scheduler.specs.Prelude.{ℕ, true, false, List, Open, Held, Refused, Lapsed, State, Call, Submit, Close, Finish, Advance}
 use Rattle.plan.specs.Plans.{step_of, rejectable, delayable}
 use Rattle.scheduler.specs.State.{fate_of, hold, settle_as, shut, set_minute, Sized}
 use Rattle.scheduler.specs.Rules.{barred}

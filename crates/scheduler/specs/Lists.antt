@@ -1,5 +1,6 @@
 -- A list of calls.
-use Rattle.scheduler.specs.Prelude.{ℕ, ◌+◌, List, [], ◌∷◌, State, Call}
+use Rattle.std.specs.Prelude.{◌+◌, ◌∷◌}
+use Rattle.scheduler.specs.Prelude.{ℕ, List, [], State, Call}
 use Rattle.plan.specs.Base.{one_if}
 use Rattle.plan.specs.Faults.{is_turned_down}
 use Rattle.scheduler.specs.Answers.{call}

@@ -1,5 +1,6 @@
 -- Viable orders, and the chosen one.
-use Rattle.scheduler.specs.Prelude.{ℕ, zero, suc, ◌≤◌, ◌<◌, Bool, true, false, not, ◌&&◌, ◌||◌, List, [], ◌∷◌, List-as-Memᴰ, ◌⊎◌, Option, none, some, map_option, ◌≡◌, eqb, length, get_or, replicate, Fate, State}
+use Rattle.std.specs.Prelude.{◌≤◌, ◌<◌, ◌&&◌, ◌||◌, ◌∷◌, ◌⊎◌, ◌≡◌}
+use Rattle.scheduler.specs.Prelude.{ℕ, zero, suc, Bool, true, false, not, List, [], List-as-Memᴰ, Option, none, some, map_option, eqb, length, get_or, replicate, Fate, State}
 use Rattle.plan.specs.Base.{first_of, when, any_below, tabulate}
 use Rattle.plan.specs.Fates.{is_open, done_as}
 use Rattle.plan.specs.Plans.{event_count}

@@ -1,6 +1,6 @@
 -- The names that the definitions use: those of the library, passed on unchanged, and the types that `plan` and this
 -- crate declare.
-pub use Rattle.std.specs.Prelude.{ℕ, zero, suc, ◌+◌, ◌/◌, ◌%◌, ◌≤◌, ◌<◌, Bool, true, false, not, ◌&&◌, ◌||◌, cond, ◌⊎◌, ◌≡◌, eqb, ltb, leb, length, get_or, take, drop, set, replicate}
+pub use Rattle.std.specs.Prelude.{ℕ, zero, suc, Bool, true, false, not, cond, eqb, ltb, leb, length, get_or, take, drop, set, replicate}
 pub use mathlib.Core.List.{List, [], ◌∷◌, ◌++◌, Memᴰ as List-as-Memᴰ}
 pub use Rattle.std.proofs.Math.Option.{Option, none, some, map as map_option}
 pub use Rattle.plan.specs.declared.fate.Fate.{Fate}

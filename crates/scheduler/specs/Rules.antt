@@ -1,5 +1,6 @@
 -- What the standing rules of a state forbid and owe.
-use Rattle.scheduler.specs.Prelude.{ℕ, Bool, not, ◌&&◌, ◌||◌, Done, State}
+use Rattle.std.specs.Prelude.{◌&&◌, ◌||◌}
+use Rattle.scheduler.specs.Prelude.{ℕ, Bool, not, Done, State}
 use Rattle.plan.specs.Base.{any_below}
 use Rattle.plan.specs.Plans.{rule_count, rule_at}
 use Rattle.plan.specs.Rules.{bars, forbids, owes}

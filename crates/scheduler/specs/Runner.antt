@@ -1,5 +1,6 @@
 -- The run of a file of calls on a sheet, and the report.
-use Rattle.scheduler.specs.Prelude.{ℕ, zero, suc, ◌+◌, ◌/◌, ◌%◌, true, false, List, [], ◌∷◌, ◌++◌, ltb, Fate, Open, Held, Done, Refused, Lapsed, Forced, Entry, State, Admitted, Faulty, Reading, Outcome}
+use Rattle.std.specs.Prelude.{◌+◌, ◌/◌, ◌%◌, ◌∷◌, ◌++◌}
+use Rattle.scheduler.specs.Prelude.{ℕ, zero, suc, true, false, List, [], ltb, Fate, Open, Held, Done, Refused, Lapsed, Forced, Entry, State, Admitted, Faulty, Reading, Outcome}
 use Rattle.plan.specs.Base.{one_if, count_below}
 use Rattle.plan.specs.Fates.{is_held}
 use Rattle.plan.specs.Plans.{event_count, rule_count}

@@ -1,5 +1,6 @@
 -- A state: how it is read, and the five ways to write it.
-use Rattle.scheduler.specs.Prelude.{ℕ, ◌+◌, Bool, true, false, cond, List, ◌≡◌, ltb, length, take, replicate, Fate, Held, Plan, Entry, State}
+use Rattle.std.specs.Prelude.{◌+◌, ◌≡◌}
+use Rattle.scheduler.specs.Prelude.{ℕ, Bool, true, false, cond, List, ltb, length, take, replicate, Fate, Held, Plan, Entry, State}
 use Rattle.scheduler.specs.declared.state.Course.{Course}
 use Rattle.plan.specs.Base.{read_at, store_at}
 use Rattle.plan.specs.Fates.{Fates, fates_of, blank_standing}

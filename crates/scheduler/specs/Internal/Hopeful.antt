@@ -1,5 +1,6 @@
 -- What a search may be told of the events that are at hand.
-use Rattle.scheduler.specs.Prelude.{ℕ, ◌<◌, true, false, none, ◌≡◌, State}
+use Rattle.std.specs.Prelude.{◌<◌, ◌≡◌}
+use Rattle.scheduler.specs.Prelude.{ℕ, true, false, none, State}
 use Rattle.plan.specs.Plans.{event_count}
 use Rattle.plan.specs.Rules.{ready}
 use Rattle.orders.specs.Closed.{Events}

@@ -1,5 +1,6 @@
 -- An order done by what the search told of its events.
-use Rattle.scheduler.specs.Prelude.{ℕ, Bool, List, [], ◌∷◌, State}
+use Rattle.std.specs.Prelude.{◌∷◌}
+use Rattle.scheduler.specs.Prelude.{ℕ, Bool, List, [], State}
 use Rattle.plan.specs.Fates.{done_as}
 use Rattle.scheduler.specs.State.{settle_as}
 

@@ -1,5 +1,6 @@
 -- The rest of an order in the search's arrays.
-use Rattle.scheduler.specs.Prelude.{ℕ, ◌+◌, Bool, true, false, List, [], ◌∷◌, Option, none, some, length, set, replicate, State}
+use Rattle.std.specs.Prelude.{◌+◌, ◌∷◌}
+use Rattle.scheduler.specs.Prelude.{ℕ, Bool, true, false, List, [], Option, none, some, length, set, replicate, State}
 use Rattle.scheduler.specs.declared.order.Found.{Found}
 use Rattle.scheduler.specs.Orders.{opens, no_order}
 

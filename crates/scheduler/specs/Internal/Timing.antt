@@ -1,5 +1,6 @@
 -- What sets say of the events that are in time, and of those whose window is over.
-use Rattle.scheduler.specs.Prelude.{ℕ, ◌<◌, ◌≡◌, State}
+use Rattle.std.specs.Prelude.{◌<◌, ◌≡◌}
+use Rattle.scheduler.specs.Prelude.{ℕ, State}
 use Rattle.members.specs.declared.times.Times.{Times}
 use Rattle.members.specs.Sets.{in_set}
 use Rattle.scheduler.specs.State.{in_time, too_late}

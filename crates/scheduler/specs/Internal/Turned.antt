@@ -1,5 +1,6 @@
 -- Turns of settling and of lapsing, as code hands them over.
-use Rattle.scheduler.specs.Prelude.{ℕ, true, false, ◌&&◌, Option, none, some, eqb, Lapsed, State}
+use Rattle.std.specs.Prelude.{◌&&◌}
+use Rattle.scheduler.specs.Prelude.{ℕ, true, false, Option, none, some, eqb, Lapsed, State}
 use Rattle.plan.specs.Fates.{is_open}
 use Rattle.plan.specs.Plans.{step_of}
 use Rattle.scheduler.specs.declared.settle.Turned.{Turned}

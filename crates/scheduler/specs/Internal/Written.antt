@@ -1,5 +1,6 @@
 -- What settling events writes: fates and history.
-use Rattle.scheduler.specs.Prelude.{ℕ, ◌+◌, Bool, cond, List, [], ◌∷◌, ltb, Fate, State}
+use Rattle.std.specs.Prelude.{◌+◌, ◌∷◌}
+use Rattle.scheduler.specs.Prelude.{ℕ, Bool, cond, List, [], ltb, Fate, State}
 use Rattle.plan.specs.Base.{store_at}
 use Rattle.plan.specs.Fates.{done_as}
 use Rattle.scheduler.specs.declared.state.Written.{Written}
