@@ -301,7 +301,8 @@ damaged() {
 }
 queue=$all
 damaged append '\024'
-refused 'plan-1.journal does not open: number 17 at offset [0-9]*: a record that is no call' one_work
+# Number 17 has no words of its own in C yet (docs/PORT.md).
+refused 'plan-1.journal does not open: number 17 at offset [0-9]*: a number that this version does not know' one_work
 damaged truncate -s 9 plans/plan-1.journal
 refused 'plan-1.journal does not open: number 1 at offset 9: the bytes run out' one_work
 damaged true
