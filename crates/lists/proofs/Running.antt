@@ -1,5 +1,6 @@
 -- Taking record after record, the runner's or of every kind, comes to the run of the list that the bytes decode to.
 -- Every state on the way passes number 12, so only the rows after it turn a call down.
+use mathlib.Core.Logic.{◌⊎◌, inl, inr}
 use Prim.Native.Nat.{ℕ, zero, suc, ◌+◌, ◌-◌, ◌≤◌, ◌<◌}
 use native.Mathlib.Decide.{ℕ_discrete}
 use native.Mathlib.Omega.{arith}
@@ -125,6 +126,15 @@ module _
         made w m
         (e ∙ sym (ap (λ (r : Reply). r.state) (call_accept t c q)))
         (omega (arith, f, ap one_if (call_taken t c q)))
+
+    -- the one or the other
+    pub again_either : (w : State) (m : ℕ)
+        → ((turns_down t c ≡ true) × (w ≡ t) × (m ≡ n + 1)) ⊎ ((turns_down t c ≡ false) × (w ≡ (accept t c).state) × (m ≡ n))
+        → Underway decoding s b w (at + size) m
+    again_either w m way = elim way [
+      | inl x ↦ again_refused w m x.0 x.1 x.2
+      | inr x ↦ again_taken w m x.0 x.1 x.2
+    ]
 
     -- taken, and idle: nothing changes, so the call is not made
     pub again_idle : (w : State) (m : ℕ)

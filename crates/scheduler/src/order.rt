@@ -46,7 +46,7 @@ impl State {
     }
 
     // The order of the members, which is the chosen one (7.11). A search that looked at orders of held events first
-    // would find the same (7.9, `held_first`), so nothing is looked at twice.
+    // would find the same (7.9, `held_first_lem`), so nothing is looked at twice.
     pub(crate) fn find_among(self, view: View, members: u16) -> Found
         requires { Shows self.plan (fate_of self) view }
         ensures { result ≡ found_from self 0 (stepwise self.plan (stands self) 6 (fate_of self) (in_set members)) }
