@@ -5,7 +5,8 @@ usage: python3 tools/port_names.py      at the top of a repository that the kit'
 
 The table is port_names.txt beside this file: an old and a new name a line. In .antt and .rt files a name is changed
 wherever it stands alone or in a path; a field of a record that Rattle makes (`c.x.y` in a Proof.antt) is left. In
-must-fail edits and in comments only names of two words without a dash are changed, since dashed words can be English.
+comments only names of two words without a dash are changed, since dashed words can be English. Must-fail edits are not
+read.
 """
 import os
 import re

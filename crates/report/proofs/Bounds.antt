@@ -1,5 +1,5 @@
--- A report is short: `report_within` and `report_short`, for an outcome whose numbers fit their types. `small` has
--- that of an outcome that code holds.
+-- A report is short: `report_within` and `report_short`, for an outcome whose numbers fit their types, and `short`, for
+-- one that code holds.
 use Prim.Native.Nat.{ℕ, zero, suc, ◌+◌, ◌*◌, ◌/◌, ◌≤◌, ◌<◌}
 use native.Mathlib.Omega.{arith}
 use native.Mathlib.Decide.{dec_lt}
@@ -57,7 +57,7 @@ offset_small (Faulty k n) g f at e =
     let same : n ≡ at = cc in
     omega (arith, g.1.1.1.1.1.0.1)
 
--- what owning an outcome tells: `c.good.0` for the first parameter, `c.CALL.ok` for a result
+-- what owning an outcome tells
 pub small : (o : Outcome) {vs : List Val} → Is (row the-outcome.the_type) o vs → Small o
 small o g = let s = g.1.1.1.0 in record {
   events = s.1.1.0.1.1.0.1;
@@ -200,3 +200,7 @@ module _ (o : Outcome) (fits : Small o) where
   -- the page has room
   pub report_short : length (report o) ≤ 320
   report_short = omega (arith, report_within)
+
+-- the same of an outcome that code holds: `c.well_formed.0` for the first parameter, `c.CALL.ok` for a result
+pub short : (o : Outcome) {vs : List Val} → Is (row the-outcome.the_type) o vs → length (report o) ≤ 320
+short o g = report_short o (small o g)

@@ -1,6 +1,5 @@
 -- `take_calls` meets its contract. The loop's invariant is `Underway` of Running.antt.
 use native.Mathlib.Omega.{arith}
-use mathlib.Core.Path.{sym, ◌∙◌}
 use Rattle.plan.proofs.CallDecoding.{decodes}
 use Rattle.lists.proofs.Running.{less, again_either, ended, bad_ended}
 use Rattle.lists.proofs.run.take_calls.Goals as goal

@@ -4,20 +4,16 @@ use mathlib.Core.Bool.{not}
 use mathlib.Core.Path.{ap}
 use Rattle.preview.proofs.kept.preview_on.Goals as goal
 
-one_of_2 : {A B : Type 0} → A × B → A
-one_of_2 w = w.0
+pub returns-then-not-is_image : goal.returns-then-not-is_image
+returns-then-not-is_image c =
+    let said =
+    no_image c.args.image.now c.args.event _ c.is_image.ensures c.args.added.now (ap not c.if-not-is_image.true) in
+    record { number = said.0; counts = said.1 }
 
-two_of_2 : {A B : Type 0} → A × B → B
-two_of_2 w = w.1
-
-pub returns-then-not-is_image-clause-number : goal.returns-then-not-is_image-clause-number
-returns-then-not-is_image-clause-number c = one_of_2 (no_image c.args.image.now c.args.event _ c.is_image.ensures c.args.added.now (ap not c.if-not-is_image.true))
-
-pub returns-then-not-is_image-clause-counts : goal.returns-then-not-is_image-clause-counts
-returns-then-not-is_image-clause-counts c = two_of_2 (no_image c.args.image.now c.args.event _ c.is_image.ensures c.args.added.now (ap not c.if-not-is_image.true))
-
-pub returns-clause-number : goal.returns-clause-number
-returns-clause-number c = one_of_2 (on_image c.args.image.now c.args.event _ c.is_image.ensures c.args.added.now (ap not c.if-not-is_image.false) _ c.state_in-state.ensures _ c.preview.ensures _ _ (c.note_preview.ensures.number, c.note_preview.ensures.counts))
-
-pub returns-clause-counts : goal.returns-clause-counts
-returns-clause-counts c = two_of_2 (on_image c.args.image.now c.args.event _ c.is_image.ensures c.args.added.now (ap not c.if-not-is_image.false) _ c.state_in-state.ensures _ c.preview.ensures _ _ (c.note_preview.ensures.number, c.note_preview.ensures.counts))
+pub returns : goal.returns
+returns c =
+    let said =
+    on_image c.args.image.now c.args.event _ c.is_image.ensures c.args.added.now (ap not c.if-not-is_image.false) _
+    c.state_in-state.ensures _ c.preview.ensures _ _
+    (c.note_preview.ensures.number, c.note_preview.ensures.counts) in
+    record { number = said.0; counts = said.1 }

@@ -4,41 +4,21 @@ use mathlib.Core.Bool.{not}
 use mathlib.Core.Path.{ap}
 use Rattle.writer.proofs.kept.write_sheet_on.Goals as goal
 
-one_of_3 : {A B C : Type 0} → A × (B × C) → A
-one_of_3 w = w.0
-
-two_of_3 : {A B C : Type 0} → A × (B × C) → B
-two_of_3 w = w.1.0
-
-three_of_3 : {A B C : Type 0} → A × (B × C) → C
-three_of_3 w = w.1.1
-
-pub returns-then-not-is_image-clause-number : goal.returns-then-not-is_image-clause-number
-returns-then-not-is_image-clause-number c = one_of_3 (no_image
+pub returns-then-not-is_image : goal.returns-then-not-is_image
+returns-then-not-is_image c =
+    let said =
+    no_image
     c.args.image.now
     c.is_image.result
     c.is_image.ensures
     c.args.out.now
-    (ap not c.if-not-is_image.true))
+    (ap not c.if-not-is_image.true) in
+    record { number = said.0; bytes = said.1.0; need = said.1.1 }
 
-pub returns-then-not-is_image-clause-bytes : goal.returns-then-not-is_image-clause-bytes
-returns-then-not-is_image-clause-bytes c = two_of_3 (no_image
-    c.args.image.now
-    c.is_image.result
-    c.is_image.ensures
-    c.args.out.now
-    (ap not c.if-not-is_image.true))
-
-pub returns-then-not-is_image-clause-need : goal.returns-then-not-is_image-clause-need
-returns-then-not-is_image-clause-need c = three_of_3 (no_image
-    c.args.image.now
-    c.is_image.result
-    c.is_image.ensures
-    c.args.out.now
-    (ap not c.if-not-is_image.true))
-
-pub returns-clause-number : goal.returns-clause-number
-returns-clause-number c = one_of_3 (on_image
+pub returns : goal.returns
+returns c =
+    let said =
+    on_image
     c.args.image.now
     c.is_image.result
     c.is_image.ensures
@@ -46,26 +26,5 @@ returns-clause-number c = one_of_3 (on_image
     (ap not c.if-not-is_image.false) _
     c.state_in-state.ensures _ _
     (c.write_sheet-reply.ensures.reply, c.write_sheet-reply.ensures.bytes) _
-    c.answer_number.ensures)
-
-pub returns-clause-bytes : goal.returns-clause-bytes
-returns-clause-bytes c = two_of_3 (on_image
-    c.args.image.now
-    c.is_image.result
-    c.is_image.ensures
-    c.args.out.now
-    (ap not c.if-not-is_image.false) _
-    c.state_in-state.ensures _ _
-    (c.write_sheet-reply.ensures.reply, c.write_sheet-reply.ensures.bytes) _
-    c.answer_number.ensures)
-
-pub returns-clause-need : goal.returns-clause-need
-returns-clause-need c = three_of_3 (on_image
-    c.args.image.now
-    c.is_image.result
-    c.is_image.ensures
-    c.args.out.now
-    (ap not c.if-not-is_image.false) _
-    c.state_in-state.ensures _ _
-    (c.write_sheet-reply.ensures.reply, c.write_sheet-reply.ensures.bytes) _
-    c.answer_number.ensures)
+    c.answer_number.ensures in
+    record { number = said.0; bytes = said.1.0; need = said.1.1 }

@@ -23,13 +23,17 @@ loop-i-preserved c = (
   λ s same marks was is done.
       let old = c.loop-i.invariant.1 s same marks was is done in
       (elim c.if-i-lt16.branch [
-        | then-i-lt16+then-not-broken-i w ↦ record_strained s c.args.event c.settle_as-next.result c.loop-i.i c.loop-i.next _ w.does_forbid.result w.does_owe.result done old
+        | then-i-lt16+then-not-broken-i w ↦ record_strained s c.args.event c.settle_as-next.result
+            c.loop-i.i c.loop-i.next _ w.does_forbid.result w.does_owe.result done old
             (ap (λ (l : List Bool). not (read_at 16 l c.loop-i.i false)) marks ∙ mark_read c.args.self.broken c.loop-i.i true w.if-i-lt16.true (ap not w.if-not-broken-i.true))
             (rule_read_lem s.plan _ same c.loop-i.i w.if-i-lt16.true)
             (w.does_forbid.ensures s.plan (fate_of s) was)
             (w.does_owe.ensures s.plan _ is)
             ∙ sym (w.next-is ∙ w.break_if-next.ensures)
-        | then-i-lt16+else-not-broken-i w ↦ record_broken_lem s c.args.event c.settle_as-next.result c.loop-i.i c.loop-i.next done old (ap (λ (l : List Bool). not (read_at 16 l c.loop-i.i false)) marks ∙ mark_read c.args.self.broken c.loop-i.i false w.if-i-lt16.true (ap not w.if-not-broken-i.false)) ∙ sym w.next-is
+        | then-i-lt16+else-not-broken-i w ↦ record_broken_lem s c.args.event c.settle_as-next.result
+            c.loop-i.i c.loop-i.next done old
+            (ap (λ (l : List Bool). not (read_at 16 l c.loop-i.i false)) marks ∙ mark_read c.args.self.broken c.loop-i.i false w.if-i-lt16.true (ap not w.if-not-broken-i.false))
+            ∙ sym w.next-is
         | else-i-lt16 w ↦ record_past s c.args.event c.settle_as-next.result c.loop-i.i c.loop-i.next done old w.if-i-lt16.false ∙ sym w.next-is
       ]),
 )
@@ -37,4 +41,6 @@ loop-i-preserved c = (
 pub returns : goal.returns
 returns c = let plan = ap (λ (w : State). w.plan) c.settle_as-next.ensures ∙ plan_settle Done c.args.self c.args.event in
     let shows = subst (λ (p : Plan). Shows p (fate_of c.settle_as-next.result) c.view-after.result) plan c.view-after.ensures in
-    record_all c.args.self c.args.event c.settle_as-next.result c.loop-i.i c.loop-i.next c.settle_as-next.ensures (c.loop-i.invariant.1 c.args.self refl refl c.view-before.ensures shows c.settle_as-next.ensures) c.loop-i.invariant.0 c.loop-i-test.false
+    record_all c.args.self c.args.event c.settle_as-next.result c.loop-i.i c.loop-i.next c.settle_as-next.ensures
+    (c.loop-i.invariant.1 c.args.self refl refl c.view-before.ensures shows c.settle_as-next.ensures)
+    c.loop-i.invariant.0 c.loop-i-test.false

@@ -5,22 +5,22 @@ use mathlib.Core.Path.{refl, sym, subst}
 use Rattle.members.specs.Lacking.{Spared}
 use Rattle.members.specs.Sets.{in_set, unbroken}
 use Rattle.scheduler.specs.State.{fate_of}
-use Rattle.scheduler.specs.Internal.Hopeful.{Hopeful}
 use Rattle.scheduler.proofs.Sizes.{sized}
 use Rattle.scheduler.proofs.SearchLoops.{hopeful_all, hopeful_spared}
 use Rattle.scheduler.proofs.state.State.find_hopeful.Goals as goal
 
-able-hopeful : (c : goal.Then-one-view) → Hopeful c.args.self (in_set c.common-able.result)
-able-hopeful c =
-    hopeful_all c.args.self c.args.view c.args.times.timely _ (sized c.args.self c.well_formed.0) c.requires.2 c.requires.3.timely c.common-able.ensures
-
 pub returns-then-one-view : goal.returns-then-one-view
-returns-then-one-view c = able-hopeful c
-
-able-hopeful_2 : (c : goal.After-spare) → Hopeful c.args.self (in_set c.common-able.result)
-able-hopeful_2 c =
-    hopeful_all c.args.self c.args.view c.args.times.timely _ (sized c.args.self c.well_formed.0) c.requires.2 c.requires.3.timely c.common-able.ensures
+returns-then-one-view c =
+    hopeful_all c.args.self c.args.view c.args.times.timely _ (sized c.args.self c.well_formed.0)
+    c.requires.2 c.requires.3.timely c.common-able.ensures
 
 pub returns : goal.returns
-returns c = let spared = c.spare.ensures c.args.self.plan (fate_of c.args.self) c.requires.0 refl c.requires.2 in
-    hopeful_spared c.args.self _ _ (sized c.args.self c.well_formed.0) (able-hopeful_2 c) (subst (λ (b : List Bool). Spared c.args.self.plan (unbroken b) (fate_of c.args.self) (in_set c.common-able.result) (in_set c.spare.result)) (sym c.requires.1) spared)
+returns c =
+    let s = c.args.self in
+    let z = sized s c.well_formed.0 in
+    let able = hopeful_all s c.args.view c.args.times.timely _ z c.requires.2 c.requires.3.timely c.common-able.ensures in
+    let spared = c.spare.ensures s.plan (fate_of s) c.requires.0 refl c.requires.2 in
+    hopeful_spared s _ _ z able
+    (subst
+    (λ (b : List Bool). Spared s.plan (unbroken b) (fate_of s) (in_set c.common-able.result) (in_set c.spare.result))
+    (sym c.requires.1) spared)

@@ -1,33 +1,22 @@
 -- `State::find_order` meets its contract.
 use mathlib.Core.Path.{refl, ◌∙◌}
-use Rattle.members.specs.Sets.{in_set}
 use Rattle.scheduler.specs.State.{fate_of}
-use Rattle.scheduler.specs.Internal.Hopeful.{Hopeful}
 use Rattle.scheduler.proofs.Sizes.{sized}
 use Rattle.scheduler.proofs.SearchLoops.{members_none, members_found, hopeful_all}
 use Rattle.scheduler.proofs.state.State.find_order.Goals as goal
-
--- the events at hand that are in time
-hopeful : (c : goal.After-find_among) → Hopeful c.args.self (in_set c.common-able.result)
-hopeful c =
-    hopeful_all c.args.self c.view-view.result c.times-times.result.timely _ (sized c.args.self c.well_formed.0) c.view-view.ensures c.times-times.ensures.timely c.common-able.ensures
 
 pub returns-then-members : goal.returns-then-members
 returns-then-members c = members_found c.args.self
     (sized c.args.self c.well_formed.0)
     c.args.event
     c.common-able.result
-    (hopeful c)
+    (hopeful_all c.args.self c.view-view.result c.times-times.result.timely _ (sized c.args.self c.well_formed.0)
+    c.view-view.ensures c.times-times.ensures.timely c.common-able.ensures)
     c.close_set-members.result
     (c.close_set-members.ensures c.args.self.plan (fate_of c.args.self) refl refl c.view-view.ensures)
     c.if-members.true
     c.find_among.result
     c.find_among.ensures
-
--- the events at hand that are in time
-hopeful_2 : (c : goal.After-blank_order) → Hopeful c.args.self (in_set c.common-able.result)
-hopeful_2 c =
-    hopeful_all c.args.self c.view-view.result c.times-times.result.timely _ (sized c.args.self c.well_formed.0) c.view-view.ensures c.times-times.ensures.timely c.common-able.ensures
 
 pub returns : goal.returns
 returns c = c.blank_order.ensures
@@ -35,7 +24,8 @@ returns c = c.blank_order.ensures
     (sized c.args.self c.well_formed.0)
     c.args.event
     c.common-able.result
-    (hopeful_2 c)
+    (hopeful_all c.args.self c.view-view.result c.times-times.result.timely _ (sized c.args.self c.well_formed.0)
+    c.view-view.ensures c.times-times.ensures.timely c.common-able.ensures)
     c.close_set-members.result
     (c.close_set-members.ensures c.args.self.plan (fate_of c.args.self) refl refl c.view-view.ensures)
     c.if-members.false

@@ -3,13 +3,13 @@
 use mathlib.Core.Path.{◌≡◌}
 use Rattle.plan.specs.Plans.{rule_count}
 use Rattle.members.specs.Sets.{Shows}
-use Rattle.scheduler.specs.State.{fate_of}
+use Rattle.scheduler.specs.State.{fate_of, hold}
 use Rattle.scheduler.specs.Calls.{settle_up_to, settle}
 use Rattle.scheduler.specs.Internal.Timing.{Timing}
 use Rattle.scheduler.proofs.state.State.settle_with.Given as goal
 
 abbrev pub invariant-loop-left : goal.invariant-loop-left
-invariant-loop-left l = (settle l.initial.next ≡ settle_up_to l.left l.next)
+invariant-loop-left l = (settle (hold l.fn.self l.fn.event) ≡ settle_up_to l.left l.next)
     × Shows l.next.plan (fate_of l.next) l.view
     × Timing l.next l.times
     × (l.next.plan.rules ≡ l.rules)

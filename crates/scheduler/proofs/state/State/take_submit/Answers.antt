@@ -1,6 +1,5 @@
 -- `State::take_submit` meets its contract.
-use mathlib.Core.Path.{◌≡◌, sym, ◌∙◌, ap}
-use Rattle.scheduler.specs.Calls.{submit}
+use mathlib.Core.Path.{sym, ◌∙◌, ap}
 use Rattle.scheduler.proofs.Courses.{course_submit}
 use Rattle.scheduler.specs.Prelude.{Standing, Submit, Unknown}
 use Rattle.plan.specs.Fates.{blank_standing}
@@ -22,24 +21,17 @@ returns-then-not-is_open c = let settled = c.if-not-is_open.true in
     (sym (submit_same c.args.self c.args.event (sym (fate_in c.args.self c.args.event _ c.if-event-lt16.true c.is_open.ensures) ∙ settled)))
     (sym (ap (λ (v : Standing). v.fate) (read_in 16 c.args.self.standings c.args.event blank_standing c.if-event-lt16.true))))
 
--- the state after the hand-in
-handed : (c : goal.After-standing-then-event-lt16-2-1)
-    → (c.with_course-state.result ≡ submit c.args.self c.args.event)
-handed c =
-    c.with_course-state.ensures ∙ course_submit c.args.self c.args.event _ c.after_submit-course.ensures
-
 pub returns-then-event-lt16-2 : goal.returns-then-event-lt16-2
 returns-then-event-lt16-2 c = take_accepted c.args.self (Submit c.args.event) _
     (submit_known c.args.self c.args.event c.if-plan-event.false)
-    (submit_reply c.args.self c.args.event _ _ (handed c) (sym (ap (λ (v : Standing). v.fate) (read_in 16 c.with_course-state.result.standings c.args.event blank_standing c.if-event-lt16-2.true))))
-
--- the state after the hand-in
-handed_2 : (c : goal.Else-event-lt16-2)
-    → (c.with_course-state.result ≡ submit c.args.self c.args.event)
-handed_2 c =
-    c.with_course-state.ensures ∙ course_submit c.args.self c.args.event _ c.after_submit-course.ensures
+    (submit_reply c.args.self c.args.event _ _
+    (c.with_course-state.ensures ∙ course_submit c.args.self c.args.event _ c.after_submit-course.ensures)
+    (sym (ap (λ (v : Standing). v.fate)
+    (read_in 16 c.with_course-state.result.standings c.args.event blank_standing c.if-event-lt16-2.true))))
 
 pub returns-else-event-lt16-2 : goal.returns-else-event-lt16-2
 returns-else-event-lt16-2 c = take_accepted c.args.self (Submit c.args.event) _
     (submit_known c.args.self c.args.event c.if-plan-event.false)
-    (submit_reply c.args.self c.args.event _ _ (handed_2 c) (sym (fate_past c.with_course-state.result c.args.event c.if-event-lt16-2.false)))
+    (submit_reply c.args.self c.args.event _ _
+    (c.with_course-state.ensures ∙ course_submit c.args.self c.args.event _ c.after_submit-course.ensures)
+    (sym (fate_past c.with_course-state.result c.args.event c.if-event-lt16-2.false)))
