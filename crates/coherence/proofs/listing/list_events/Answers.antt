@@ -9,10 +9,15 @@ pub loop-i-init : goal.loop-i-init
 loop-i-init c = turn_start _ _ _ _
 
 pub returns-then-event-count : goal.returns-then-event-count
-returns-then-event-count c = turn_undeclared c.args.history c.args.len c.args.count c.args.standings c.well_formed.0.1.0.1 c.loop-i.listed c.loop-i.places c.loop-i.i c.loop-i.invariant _ refl (omega arith) c.if-event-count.true
+returns-then-event-count c = turn_undeclared
+    c.args.history c.args.len c.args.count c.args.standings c.well_formed.0.1.0.1
+    c.loop-i.listed c.loop-i.places c.loop-i.i c.loop-i.invariant
+    _ refl (omega arith) c.if-event-count.true
 
 pub returns-then-listed-event : goal.returns-then-listed-event
-returns-then-listed-event c = turn_wrong c.args.history c.args.len c.args.count c.args.standings c.well_formed.0.1.0.1 c.loop-i.listed c.loop-i.places c.loop-i.i c.loop-i.invariant _ refl (omega arith)
+returns-then-listed-event c = turn_wrong
+    c.args.history c.args.len c.args.count c.args.standings c.well_formed.0.1.0.1
+    c.loop-i.listed c.loop-i.places c.loop-i.i c.loop-i.invariant _ refl (omega arith)
     _ refl c.if-event-count.false (rw (c.is_settled.ensures, c.is_same.ensures) at c.if-listed-event.true)
 
 pub loop-i-preserved : goal.loop-i-preserved

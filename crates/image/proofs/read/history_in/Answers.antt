@@ -12,7 +12,10 @@ pub loop-i-init : goal.loop-i-init
 loop-i-init c = (omega arith, fill_none _ _)
 
 pub loop-i-preserved : goal.loop-i-preserved
-loop-i-preserved c = (omega arith, fill_next (entry_in c.args.image.now) _ _ _ _ c.loop-i.invariant.1 (ap (λ (x : Fate). record { event = byte_at c.args.image.now (line_event_at + c.loop-i.i); fate = x }) c.fate_from-fate.ensures))
+loop-i-preserved c =
+    let event = byte_at c.args.image.now (line_event_at + c.loop-i.i) in
+    let same = ap (λ (x : Fate). record { event = event; fate = x }) c.fate_from-fate.ensures in
+    (omega arith, fill_next (entry_in c.args.image.now) _ _ _ _ c.loop-i.invariant.1 same)
 
 pub returns : goal.returns
 returns c = fill_all 16 blank_entry _ _ c.loop-i.i c.loop-i.invariant.0 c.loop-i-test.false c.loop-i.invariant.1

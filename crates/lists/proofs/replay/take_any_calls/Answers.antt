@@ -12,8 +12,11 @@ loop-made-smaller c = omega (arith, less decodes_all c.loop-made.invariant _ c.a
 pub loop-made-preserved : goal.loop-made-preserved
 loop-made-preserved c = let test = sym c.turns_down.ensures in
     elim c.if-turns_down.branch [
-      | then-turns_down x ↦ again_refused decodes_all c.loop-made.invariant _ c.any_call_at-read.ensures _ c.in-Listed.is _ c.call_size-at.ensures _ _ (test ∙ x.if-turns_down.true) x.next-is x.refused-is
-      | else-turns_down x ↦ again_taken decodes_all c.loop-made.invariant _ c.any_call_at-read.ensures _ c.in-Listed.is _ c.call_size-at.ensures _ _ (test ∙ x.if-turns_down.false) (x.next-is ∙ x.with_course-next.ensures ∙ x.after_call-course.ensures) x.refused-is
+      | then-turns_down x ↦ again_refused decodes_all c.loop-made.invariant _ c.any_call_at-read.ensures _ c.in-Listed.is
+          _ c.call_size-at.ensures _ _ (test ∙ x.if-turns_down.true) x.next-is x.refused-is
+      | else-turns_down x ↦ again_taken decodes_all c.loop-made.invariant _ c.any_call_at-read.ensures _ c.in-Listed.is
+          _ c.call_size-at.ensures _ _ (test ∙ x.if-turns_down.false)
+          (x.next-is ∙ x.with_course-next.ensures ∙ x.after_call-course.ensures) x.refused-is
     ]
 
 pub returns-in-End : goal.returns-in-End

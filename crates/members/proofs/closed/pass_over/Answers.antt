@@ -32,7 +32,8 @@ loop-i-preserved c = (
             (rule_read_lem p _ same c.loop-i.i w.if-i-lt16.true)
             (w.add_target-next.ensures p f shows old.sure.ok)
             (not-false _ w.if-not-next.false))
-        | then-i-lt16+else-not-broken-i w ↦ rw w.next-is (pass_broken p (unbroken c.args.broken) f c.args.able e _ _ c.loop-i.i old (mark_read c.args.broken c.loop-i.i false w.if-i-lt16.true (ap not w.if-not-broken-i.false)))
+        | then-i-lt16+else-not-broken-i w ↦ rw w.next-is (pass_broken p (unbroken c.args.broken) f c.args.able e _ _ c.loop-i.i old
+            (mark_read c.args.broken c.loop-i.i false w.if-i-lt16.true (ap not w.if-not-broken-i.false)))
         | else-i-lt16 w ↦ rw w.next-is (pass_blank p (unbroken c.args.broken) f c.args.able e _ _ c.loop-i.i old (rule_past p _ same c.loop-i.i w.if-i-lt16.false))
       ]),
 )

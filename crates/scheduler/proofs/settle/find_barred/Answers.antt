@@ -24,6 +24,11 @@ returns-then-view-times c = let idle = and_left (eqb c.args.view.done 0 && eqb c
 
 pub returns : goal.returns
 returns c = λ s r b n w k.
+    let barred = c.blocked_in-barred.result in
+    let marked = subst
+    (λ (z : List Bool). (x : ℕ) → x < 16 → in_set barred x ≡ blocked s.plan (unbroken z) (fate_of s) (in_set 0) x)
+    (sym b)
+    (c.blocked_in-barred.ensures s.plan (fate_of s) r n w) in
     c.lowest_of.ensures
-    ∙ sym (ap or_sixteen (refuse_same s c.args.view w c.blocked_in-barred.result c.common.result (subst (λ (z : List Bool). (x : ℕ) → x < 16 → in_set c.blocked_in-barred.result x ≡ blocked s.plan (unbroken z) (fate_of s) (in_set 0) x) (sym b) (c.blocked_in-barred.ensures s.plan (fate_of s) r n w)) c.args.times.late k.late
-    (λ x. c.common.ensures x ∙ ap (λ (y : Bool). in_set c.args.view.held x && y) (in_or c.blocked_in-barred.result c.args.times.late x))))
+    ∙ sym (ap or_sixteen (refuse_same s c.args.view w barred c.common.result marked c.args.times.late k.late
+    (λ x. c.common.ensures x ∙ ap (λ (y : Bool). in_set c.args.view.held x && y) (in_or barred c.args.times.late x))))

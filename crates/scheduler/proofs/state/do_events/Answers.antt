@@ -29,8 +29,13 @@ made c =
     ]
 
 pub loop-i-preserved : goal.loop-i-preserved
-loop-i-preserved c = let next = write_next c.args.events c.args.opened c.args.len c.loop-i.i c.loop-i.next (omega (arith, c.loop-i.invariant.1)) (omega (arith, c.loop-i.invariant.2)) in
-    (c.loop-i.invariant.0, c.loop-i.invariant.1, c.loop-i.invariant.2, c.loop-i.invariant.3 ∙ next ∙ ap (λ (w : Written). write_all w (drop (c.loop-i.i + 1) (take c.args.len c.args.events)) (drop (c.loop-i.i + 1) (take c.args.len c.args.opened))) (sym (made c)))
+loop-i-preserved c =
+    let kept = c.loop-i.invariant in
+    let events = drop (c.loop-i.i + 1) (take c.args.len c.args.events) in
+    let opened = drop (c.loop-i.i + 1) (take c.args.len c.args.opened) in
+    let next = write_next c.args.events c.args.opened c.args.len c.loop-i.i c.loop-i.next
+    (omega (arith, kept.1)) (omega (arith, kept.2)) in
+    (kept.0, kept.1, kept.2, kept.3 ∙ next ∙ ap (λ (w : Written). write_all w events opened) (sym (made c)))
 
 pub returns : goal.returns
 returns c = sym (c.loop-i.invariant.3 ∙ write_end c.args.events c.args.opened c.args.len c.loop-i.i c.loop-i.next (omega (arith, c.loop-i.invariant.1)))
