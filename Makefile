@@ -93,9 +93,8 @@ $(shared): $(archive) $(built)/exports.map
 	@$(NM) -D --defined-only $@ | sed 's/.* //' | LC_ALL=C sort | diff $(built)/functions - || \
 	    { echo '$(archive) does not have the functions that $(header) declares (lines with <)' >&2; exit 1; }
 
-# Other names of the same file. Links by name will not do here: `rt ci` refuses a tree that has one.
 $(built)/$(soname) $(built)/$(link_name): $(shared)
-	ln -f $< $@
+	ln -sf $(file_name) $@
 
 test:
 	bash .ci/run
