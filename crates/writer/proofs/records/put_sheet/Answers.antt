@@ -11,7 +11,7 @@ put_rules-then-requires c = record {
 
 pub put_windows-last-requires : goal.put_windows-last-requires
 put_windows-last-requires c = record {
-  few = c.requires.events;
+  few = omega (arith, c.requires.events);
   room = omega (
     arith,
     c.requires.events,
