@@ -93,8 +93,9 @@ $(shared): $(archive) $(built)/exports.map
 	@$(NM) -D --defined-only $@ | sed 's/.* //' | LC_ALL=C sort | diff $(built)/functions - || \
 	    { echo '$(archive) does not have the functions that $(header) declares (lines with <)' >&2; exit 1; }
 
+# Other names of the same file, and no symbolic links: `rt ci` refuses a folder that has one below it.
 $(built)/$(soname) $(built)/$(link_name): $(shared)
-	ln -sf $(file_name) $@
+	ln -f $< $@
 
 test:
 	bash .ci/run

@@ -11,7 +11,9 @@ for tool in make cc c++ pkg-config nm readelf; do
     command -v "$tool" >/dev/null || { echo "install.sh: $tool is missing" >&2; exit 1; }
 done
 
+# It goes at the end: an installation has symbolic links, and `rt ci` refuses a folder that has one below it.
 place=$PWD/target/install
+trap 'rm -rf "$place"' EXIT
 rm -rf "$place"
 mkdir -p "$place"
 lib=$place/usr/lib
