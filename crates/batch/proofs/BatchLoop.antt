@@ -12,8 +12,8 @@ use Rattle.scheduler.specs.Coherent.{coherent}
 use Rattle.scheduler.specs.Lists.{scheduler, after}
 use Rattle.scheduler.specs.State.{Sized}
 use Rattle.batch.specs.Batch.{calls_of, answered, after_entry, answers}
-use Rattle.batch.specs.Internal.Turns.{turn}
-use Rattle.batch.proofs.EntryTurns.{turn_is, after_first, entry_coherent, entry_sized}
+use Rattle.batch.specs.Internal.Turns.{turn, turned}
+use Rattle.batch.proofs.EntryTurns.{turn_is, turned_is, after_first, entry_coherent, entry_sized}
 
 -- what a read past the end of the entries gives
 abbrev pub no_entry : BatchEntry
@@ -85,8 +85,8 @@ module _ (s : State) (ys : List BatchEntry) (i : ℕ) (x : State) (zs : List Bat
       sized = entry_sized x entry f.sized;
     }
 
-    pub goes_on : Underway s ys (i + 1) (turn x entry).state (set zs i (turn x entry).entry)
-    goes_on = rw (turn_is x entry f.passes) goes
+    pub goes_on : Underway s ys (i + 1) (turn x entry) (set zs i (turned x entry))
+    goes_on = rw (turn_is x entry f.passes, turned_is x entry f.passes) goes
 
   -- the end
   pub stops : length ys ≤ i → (x ≡ after scheduler s (calls_of ys)) × (zs ≡ answers s ys)

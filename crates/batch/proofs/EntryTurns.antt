@@ -3,9 +3,10 @@ use Prim.Native.Nat.{ℕ}
 use borrow.Author.Tests.{eq-eqb, ne_eqb}
 use mathlib.Core.Bool.{true}
 use mathlib.Core.List.{List, ◌∷◌}
-use mathlib.Core.Option.{Option, none, some}
+use Rattle.std.specs.declared.option.Option.{Option}
+use Rattle.std.specs.declared.option.Option.TheVariants.{None as none, Some as some}
 use mathlib.Core.Path.{◌≡◌, refl, sym, ◌∙◌, ap}
-use Rattle.batch.specs.Types.{Call, Submit, Close, Answer, State, BatchEntry}
+use Rattle.batch.specs.Types.{Call, Submit, Close, Answer, State, Reply, BatchEntry}
 use Rattle.plan.specs.Faults.{answer_number, answer_fate}
 use Rattle.scheduler.specs.Answers.{take_call, call}
 use Rattle.scheduler.specs.Coherent.{coherent}
@@ -14,7 +15,7 @@ use Rattle.scheduler.specs.State.{Sized}
 use Rattle.scheduler.proofs.CallSteps.{take_call_lem}
 use Rattle.theory.proofs.Coherence.{call_coherent, sized_call}
 use Rattle.batch.specs.Batch.{asked_by, calls_of, carrying, fate_carried, carries, answered, after_entry}
-use Rattle.batch.specs.Internal.Turns.{single, turn}
+use Rattle.batch.specs.Internal.Turns.{turn, turned}
 
 -- what an entry asks for, by its kind
 module _ (e : BatchEntry) where
@@ -32,13 +33,29 @@ module _ (e : BatchEntry) where
 
 -- the branches of the definitions, by what it asks for
 module _ (s : State) (e : BatchEntry) where
-  pub turn_some : (c : Call) → asked_by e ≡ some c → turn s e ≡ single e (take_call s c)
+  pub turn_some : (c : Call) → asked_by e ≡ some c → turn s e ≡ (take_call s c).state
   unfolding turn
   turn_some c h = rw (h, turn)
 
-  pub turn_none : asked_by e ≡ none → turn s e ≡ record { state = s; entry = carrying e 2 0 }
+  pub turn_none : asked_by e ≡ none → turn s e ≡ s
   unfolding turn
   turn_none h = rw (h, turn)
+
+  pub turned_some : (c : Call) → asked_by e ≡ some c → turned s e ≡ carries e (take_call s c).answer
+  unfolding turned
+  turned_some c h = rw (h, turned)
+
+  pub turned_none : asked_by e ≡ none → turned s e ≡ carrying e 2 0
+  unfolding turned
+  turned_none h = rw (h, turned)
+
+  -- the code's reply to the call
+  pub replied : (c : Call) (r : Reply) → asked_by e ≡ some c → r ≡ take_call s c
+      → (r.state ≡ turn s e) × (carries e r.answer ≡ turned s e)
+  replied c r h is = (
+    ap (λ (x : Reply). x.state) is ∙ sym (turn_some c h),
+    ap (λ (x : Reply). carries e x.answer) is ∙ sym (turned_some c h),
+  )
 
   pub answered_some : (c : Call) → asked_by e ≡ some c → answered s e ≡ carries e (call s c).answer
   unfolding answered
@@ -64,7 +81,7 @@ pub calls_none : (e : BatchEntry) (es : List BatchEntry) → asked_by e ≡ none
 unfolding calls_of
 calls_none e es h = rw (h, calls_of)
 
--- an entry with its call's answer, as the code has it
+-- an entry with its answer's two numbers carries the answer
 pub carried : (e x : BatchEntry) (a : Answer) (n f : ℕ)
     → n ≡ answer_number a
     → f ≡ fate_carried (answer_fate a)
@@ -73,17 +90,23 @@ pub carried : (e x : BatchEntry) (a : Answer) (n f : ℕ)
 carried e x a n f h k same = same ∙ (λ i. carrying e (h i) (k i))
 
 -- a turn on a state that passes number 12 is the single call
-pub turn_is : (s : State) (e : BatchEntry)
-    → coherent s ≡ true
-    → turn s e ≡ record { state = after_entry s e; entry = answered s e }
-turn_is s e h = go (asked_by e) refl
-  where
-    go : (q : Option Call) → asked_by e ≡ q → turn s e ≡ record { state = after_entry s e; entry = answered s e }
-    go (some c) a =
-        turn_some s e c a
-        ∙ ap (single e) (take_call_lem s c h)
-        ∙ (λ i. record { state = sym (after_some s e c a) i; entry = sym (answered_some s e c a) i })
-    go none a = turn_none s e a ∙ (λ i. record { state = sym (after_none s e a) i; entry = sym (answered_none s e a) i })
+module _ (s : State) (e : BatchEntry) (h : coherent s ≡ true) where
+  pub turn_is : turn s e ≡ after_entry s e
+  turn_is = go (asked_by e) refl
+    where
+      go : (q : Option Call) → asked_by e ≡ q → turn s e ≡ after_entry s e
+      go (some c) a = turn_some s e c a ∙ ap (λ (r : Reply). r.state) (take_call_lem s c h) ∙ sym (after_some s e c a)
+      go none a = turn_none s e a ∙ sym (after_none s e a)
+
+  pub turned_is : turned s e ≡ answered s e
+  turned_is = go (asked_by e) refl
+    where
+      go : (q : Option Call) → asked_by e ≡ q → turned s e ≡ answered s e
+      go (some c) a =
+          turned_some s e c a
+          ∙ ap (λ (r : Reply). carries e r.answer) (take_call_lem s c h)
+          ∙ sym (answered_some s e c a)
+      go none a = turned_none s e a ∙ sym (answered_none s e a)
 
 -- the first of a list's calls, and of a batch's
 after_call : (s : State) (c : Call) (cs : List Call) → after scheduler s (c ∷ cs) ≡ after scheduler (call s c).state cs

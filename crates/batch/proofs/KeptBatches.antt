@@ -1,10 +1,10 @@
 -- A batch on a kept state: what the code reads and writes of it, and the theorems for hosts.
 use Prim.Native.Nat.{ℕ, ◌≤◌}
 use mathlib.Core.Logic.{◌≢◌, inl, inr}
-use mathlib.Core.Option.{Option, none, some}
+use Rattle.std.specs.declared.option.Option.{Option}
+use Rattle.std.specs.declared.option.Option.TheVariants.{None as none, Some as some}
 use lib.ListN.{length}
-use borrow.Author.Tests.{not-true, not-false}
-use mathlib.Core.Bool.{Bool, true, false, not, cond}
+use mathlib.Core.Bool.{true, false, cond}
 use mathlib.Core.List.{List, ◌++◌}
 use mathlib.Core.Path.{◌≡◌, refl, sym, ◌∙◌, ap}
 use Rattle.batch.specs.Types.{Call, CallFault, Incoherent, State, Reply, BatchEntry}
@@ -32,12 +32,12 @@ module _ (b : List ℕ) where
   unfolding kept_state
   kept_other h = rw h
 
-  module _ (t : State) (q : Bool) (same : t ≡ state_in b) (test : q ≡ is_image b) where
-    pub kept_spoilt : not q ≡ true → overfull t ≡ kept_state b
-    kept_spoilt h = ap overfull same ∙ sym (kept_other (sym test ∙ not-true q h))
+  module _ (t : State) (same : t ≡ state_in b) where
+    pub kept_spoilt : false ≡ is_image b → overfull t ≡ kept_state b
+    kept_spoilt h = ap overfull same ∙ sym (kept_other (sym h))
 
-    pub kept_read : not q ≡ false → t ≡ kept_state b
-    kept_read h = same ∙ sym (kept_image (sym test ∙ not-false q h))
+    pub kept_read : true ≡ is_image b → t ≡ kept_state b
+    kept_read h = same ∙ sym (kept_image (sym h))
 
 -- it fails number 12 where the bytes are no image
 overfull_fails : (s : State) → coherent (overfull s) ≡ false

@@ -1,8 +1,9 @@
 -- A batch: the calls that its entries ask for, what each entry carries afterwards, and when the whole batch is turned
 -- down.
 use Rattle.std.specs.Prelude.{ℕ, true, false, not, List, [], ◌∷◌, ◌++◌, ◌≡◌, eqb, ltb, length}
-use Rattle.std.proofs.Math.Option.{Option, none, some}
-use Rattle.batch.specs.Types.{Call, Submit, Close, CallFault, Incoherent, TooLong, Answer, Made, FateAnswered, State, Reply, BatchEntry}
+use Rattle.std.specs.declared.option.Option.{Option}
+use Rattle.std.specs.declared.option.Option.TheVariants.{None as none, Some as some}
+use Rattle.batch.specs.Types.{Call, Submit, Close, CallFault, Incoherent, TooLong, Fate, Answer, Made, State, Reply, BatchEntry}
 use Rattle.plan.specs.Fates.{fate_number}
 use Rattle.plan.specs.Faults.{answer_number, answer_fate, first_fault}
 use Rattle.scheduler.specs.Coherent.{coherent}
@@ -28,8 +29,8 @@ abbrev pub carrying : BatchEntry → ℕ → ℕ → BatchEntry
 carrying e n f = record { kind = e.kind; number = e.number; refused = n; fate = f }
 
 -- the number of the fate that an answer gives; 0 if it gives none (9.13)
-abbrev pub fate_carried : FateAnswered → ℕ
-fate_carried x = elim x [ FateAnswered.Is f ↦ fate_number f | FateAnswered.Nothing ↦ 0 ]
+abbrev pub fate_carried : Option Fate → ℕ
+fate_carried x = elim x [ some f ↦ fate_number f | none ↦ 0 ]
 
 -- an entry with the answer of its single call (9.13)
 abbrev pub carries : BatchEntry → Answer → BatchEntry

@@ -8,9 +8,6 @@ pub use Rattle.plan.specs.declared.answer.CallFault.{CallFault}
 pub use Rattle.plan.specs.declared.answer.CallFault.TheVariants.{Unknown, AlreadyClosed, NotClosed, Incoherent, TooLong, NoRoom, Backward}
 pub use Rattle.plan.specs.declared.answer.Answer.{Answer}
 pub use Rattle.plan.specs.declared.answer.Answer.TheVariants.{Is, Made, TurnedDown}
-pub use Rattle.plan.specs.declared.answer.FateAnswered.{FateAnswered}
 pub use Rattle.scheduler.specs.declared.state.State.{State}
 pub use Rattle.scheduler.specs.declared.reply.Reply.{Reply}
 pub use Rattle.batch.specs.declared.entry.BatchEntry.{BatchEntry}
-pub use Rattle.batch.specs.declared.entry.Answered.{Answered}
-pub use Rattle.batch.specs.declared.batch.Judged.{Judged}

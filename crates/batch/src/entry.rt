@@ -1,13 +1,12 @@
 // An entry of a batch, and its turn: the single call that it asks for, with the answer written into it.
 ghost use Rattle.std.specs.Prelude.{◌≡◌};
-ghost use Rattle.plan.specs.Faults.{answer_fate};
-ghost use Rattle.batch.specs.Batch.{carrying, carries, fate_carried};
-ghost use Rattle.batch.specs.Internal.Turns.{single, turn};
+ghost use Rattle.batch.specs.Batch.{carrying, carries};
+ghost use Rattle.batch.specs.Internal.Turns.{turn, turned};
 
 use checks::answer::{answer_fate, answer_number};
 use checks::fate::fate_number;
-use plan::answer::{Answer, FateAnswered};
-use scheduler::reply::Reply;
+use plan::answer::{Answer, SheetFault};
+use plan::calls::{CLOSE, SUBMIT};
 use scheduler::state::State;
 
 // A submit (hand in, kind 16) or a closing (kind 17) with its number, and its answer: the number that turned it down,
@@ -21,69 +20,31 @@ pub struct BatchEntry {
     pub fate: u8,
 }
 
-// The state after an entry's turn, and the entry with its answer.
-#[derive(Clone, Copy)]
-pub(crate) struct Answered {
-    pub state: State,
-    pub entry: BatchEntry,
-}
-
-// An entry's turn. The batch has made the coherence test, number 12, and every call preserves coherence, so the turns
-// do not test it again.
-pub(crate) fn take_turn(state: State, entry: BatchEntry) -> Answered
-    ensures { result ≡ turn state entry }
-{
-    if entry.kind == 16 {
-        return answer_entry(entry, state.take_submit(entry.number));
+impl BatchEntry {
+    // The entry's turn on a state, and the state after it. The batch has made the coherence test, number 12, and every
+    // call preserves coherence, so the turns do not test it again.
+    pub(crate) fn take_turn(&mut self, state: State) -> State
+        ensures state { result ≡ turn state self.old }
+        ensures entry { self.new ≡ turned state self.old }
+    {
+        let reply = match self.kind {
+            SUBMIT => state.take_submit(self.number),
+            CLOSE => state.take_close(self.number),
+            _ => {
+                self.refused = SheetFault::BadKind as u8;
+                self.fate = 0;
+                return state;
+            }
+        };
+        self.carry(reply.answer);
+        reply.state
     }
-    if entry.kind == 17 {
-        return answer_entry(entry, state.take_close(entry.number));
-    }
-    Answered {
-        state,
-        entry: carry(entry, 2, 0),
-    }
-}
 
-// The state after the entry's call, and the entry with the call's answer.
-fn answer_entry(entry: BatchEntry, reply: Reply) -> Answered
-    ensures { result ≡ single entry reply }
-{
-    let answer = reply.answer;
-    let next = reply.state;
-    Answered {
-        state: next,
-        entry: carry_answer(entry, answer),
-    }
-}
-
-// The entry with its call's answer in it.
-fn carry_answer(entry: BatchEntry, answer: Answer) -> BatchEntry
-    ensures { result ≡ carries entry answer }
-{
-    let refused = answer_number(answer) as u8;
-    carry(entry, refused, carried_fate(answer))
-}
-
-// The number of the fate that an answer gives; 0 if it gives none.
-fn carried_fate(answer: Answer) -> u8
-    ensures { result ≡ fate_carried (answer_fate answer) }
-{
-    let told = answer_fate(answer);
-    match told {
-        FateAnswered::Is(fate) => fate_number(fate),
-        FateAnswered::Nothing => 0,
-    }
-}
-
-// The entry with this answer in it; its kind and number stay.
-fn carry(entry: BatchEntry, refused: u8, fate: u8) -> BatchEntry
-    ensures { result ≡ carrying entry refused fate }
-{
-    BatchEntry {
-        kind: entry.kind,
-        number: entry.number,
-        refused,
-        fate,
+    // Writes its call's answer into the entry; its kind and number stay.
+    fn carry(&mut self, answer: Answer)
+        ensures { self.new ≡ carries self.old answer }
+    {
+        self.refused = answer_number(answer) as u8;
+        self.fate = answer_fate(answer).map_or(0, fate_number);
     }
 }

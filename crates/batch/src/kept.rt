@@ -8,6 +8,7 @@ use checks::answer::answer_number;
 use image::read::state_in;
 use image::test::is_image;
 use image::write::put_state;
+use plan::answer::Answer;
 use scheduler::reply::Reply;
 use scheduler::state::State;
 
@@ -27,12 +28,8 @@ pub fn kept_state(bytes: [u8; 384]) -> State
 pub fn note_reply(image: &mut [u8; 384], reply: Reply) -> u8
     ensures { (result ≡ answer_number reply.answer) × (image.new ≡ cond (is_turned_down reply.answer) image.old (image_of reply.state)) }
 {
-    let answer = reply.answer;
-    let next = reply.state;
-    let number = answer_number(answer) as u8;
-    if 0 < number {
-        return number;
+    if !matches!(reply.answer, Answer::TurnedDown(_)) {
+        put_state(image, reply.state);
     }
-    put_state(image, next);
-    0
+    answer_number(reply.answer) as u8
 }

@@ -2,37 +2,20 @@
 ghost use Rattle.std.specs.Prelude.{◌≡◌};
 ghost use Rattle.plan.specs.Faults.{sheet_fault_number, call_fault_number, answer_number, answer_fate};
 
-use plan::answer::{Answer, CallFault, FateAnswered, SheetFault};
+use plan::answer::{Answer, CallFault, SheetFault};
+use plan::fate::Fate;
 
 // The number of a sheet's fault (4.2).
 pub fn sheet_fault_number(fault: SheetFault) -> usize
     ensures { result ≡ sheet_fault_number fault }
 {
-    match fault {
-        SheetFault::Cut => 1,
-        SheetFault::BadKind => 2,
-        SheetFault::Full => 3,
-        SheetFault::BadStep => 4,
-        SheetFault::BadAttributes => 5,
-        SheetFault::BadNames => 6,
-        SheetFault::Unenforceable => 7,
-        SheetFault::Extra => 8,
-        SheetFault::BadWindow => 15,
-    }
+    fault as usize
 }
 
 pub fn call_fault_number(fault: CallFault) -> usize
     ensures { result ≡ call_fault_number fault }
 {
-    match fault {
-        CallFault::Unknown => 9,
-        CallFault::AlreadyClosed => 10,
-        CallFault::NotClosed => 11,
-        CallFault::Incoherent => 12,
-        CallFault::TooLong => 13,
-        CallFault::NoRoom => 14,
-        CallFault::Backward => 16,
-    }
+    fault as usize
 }
 
 // An answer's number: that of the fault if the call is turned down, 0 if it is accepted.
@@ -40,19 +23,17 @@ pub fn answer_number(answer: Answer) -> usize
     ensures { result ≡ answer_number answer }
 {
     match answer {
-        Answer::Is(fate) => 0,
-        Answer::Made => 0,
+        Answer::Is(_) | Answer::Made => 0,
         Answer::TurnedDown(fault) => call_fault_number(fault),
     }
 }
 
 // An answer's fate.
-pub fn answer_fate(answer: Answer) -> FateAnswered
+pub fn answer_fate(answer: Answer) -> Option<Fate>
     ensures { result ≡ answer_fate answer }
 {
     match answer {
-        Answer::Is(fate) => FateAnswered::Is(fate),
-        Answer::Made => FateAnswered::Nothing,
-        Answer::TurnedDown(fault) => FateAnswered::Nothing,
+        Answer::Is(fate) => Some(fate),
+        Answer::Made | Answer::TurnedDown(_) => None,
     }
 }

@@ -6,12 +6,12 @@ ghost use Rattle.plan.specs.Records.{word_of};
 pub fn byte_at(bytes: &[u8], at: usize) -> u8
     ensures { result ≡ get_or bytes.now at 0 }
 {
-    if at < bytes.len() { bytes[at] } else { 0 }
+    bytes.get(at).copied().unwrap_or(0)
 }
 
 // Four bytes as a number, the lowest first.
 pub fn word_of(a: u8, b: u8, c: u8, d: u8) -> u32
     ensures { result ≡ word_of a b c d }
 {
-    a as u32 + 256 * (b as u32 + 256 * (c as u32 + 256 * d as u32))
+    u32::from_le_bytes([a, b, c, d])
 }

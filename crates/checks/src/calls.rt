@@ -1,9 +1,9 @@
 // Calls as data, and their records: 16 and an event, 17 and a step, 18, or 19 and a minute.
-ghost use Rattle.std.specs.Prelude.{◌≡◌, ◌+◌, ◌<◌, length, drop, [], ◌∷◌};
-ghost use Rattle.plan.specs.Calls.{call_of, call_size, first_call, advance_in, any_call_first};
+ghost use Rattle.std.specs.Prelude.{◌≡◌, ◌≢◌, ◌+◌, ◌<◌, ◌≤◌, length, get_or, drop, [], ◌∷◌};
+ghost use Rattle.plan.specs.Calls.{call_of, call_size, first_call, advance_in, any_call_first, Finishes};
 
 use super::bytes::{byte_at, word_of};
-use plan::calls::{Call, CallRead};
+use plan::calls::{ADVANCE, CLOSE, Call, CallRead, FINISH, SUBMIT};
 
 // The record at an offset, of a kind that the runner takes: 16 to 18.
 pub fn call_at(bytes: &[u8], at: usize) -> CallRead
@@ -22,10 +22,26 @@ pub fn call_at(bytes: &[u8], at: usize) -> CallRead
 pub fn any_call_at(bytes: &[u8], at: usize) -> CallRead
     ensures { result ≡ any_call_first (drop at bytes.now) }
 {
-    if byte_at(bytes, at) == 19 {
-        return advance_at(bytes, at);
+    if byte_at(bytes, at) == ADVANCE {
+        advance_at(bytes, at)
+    } else {
+        call_at(bytes, at)
     }
-    call_at(bytes, at)
+}
+
+// Skips the finishes that follow one another from an offset on.
+pub fn skip_finishes(bytes: &[u8], from: usize) -> usize
+    ensures ahead { from ≤ result }
+    ensures inside { from ≤ length bytes.now → result ≤ length bytes.now }
+    ensures finishes { Finishes bytes.now from result }
+    ensures another { result < length bytes.now → get_or bytes.now result 0 ≢ 18 }
+{
+    for at in from..bytes.len() {
+        if bytes[at] != FINISH {
+            return at;
+        }
+    }
+    from.max(bytes.len())
 }
 
 // The record of kind 19 at an offset: four bytes follow, the lowest first, or the record is cut.
@@ -33,11 +49,10 @@ fn advance_at(bytes: &[u8], at: usize) -> CallRead
     requires { at < length bytes.now }
     ensures { result ≡ advance_in (drop (at + 1) bytes.now) }
 {
-    if bytes.len() - at < 5 {
-        return CallRead::Bad;
+    match &bytes[at + 1..] {
+        [a, b, c, d, ..] => CallRead::Listed(Call::Advance(word_of(*a, *b, *c, *d))),
+        _ => CallRead::Bad,
     }
-    let minute = word_of(bytes[at + 1], bytes[at + 2], bytes[at + 3], bytes[at + 4]);
-    CallRead::Listed(Call::Advance(minute))
 }
 
 // How many bytes a call's record has.
@@ -45,10 +60,9 @@ pub fn call_size(made: Call) -> usize
     ensures { result ≡ call_size made }
 {
     match made {
-        Call::Submit(event) => 2,
-        Call::Close(step) => 2,
+        Call::Submit(_) | Call::Close(_) => 2,
         Call::Finish => 1,
-        Call::Advance(minute) => 5,
+        Call::Advance(_) => 5,
     }
 }
 
@@ -56,7 +70,7 @@ pub fn call_size(made: Call) -> usize
 fn last_call(kind: u8) -> CallRead
     ensures { result ≡ first_call (kind ∷ []) }
 {
-    if kind == 18 {
+    if kind == FINISH {
         CallRead::Listed(Call::Finish)
     } else {
         CallRead::Bad
@@ -67,14 +81,10 @@ fn last_call(kind: u8) -> CallRead
 fn call_of(kind: u8, number: u8) -> CallRead
     ensures { result ≡ call_of kind number }
 {
-    if kind == 16 {
-        return CallRead::Listed(Call::Submit(number));
+    match kind {
+        SUBMIT => CallRead::Listed(Call::Submit(number)),
+        CLOSE => CallRead::Listed(Call::Close(number)),
+        FINISH => CallRead::Listed(Call::Finish),
+        _ => CallRead::Bad,
     }
-    if kind == 17 {
-        return CallRead::Listed(Call::Close(number));
-    }
-    if kind == 18 {
-        return CallRead::Listed(Call::Finish);
-    }
-    CallRead::Bad
 }

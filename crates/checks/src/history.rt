@@ -5,5 +5,5 @@ ghost use Rattle.std.specs.Prelude.{◌≡◌, min};
 pub fn lines_in(len: u8) -> u8
     ensures { result ≡ min len 16 }
 {
-    if len < 16 { len } else { 16 }
+    len.min(16)
 }

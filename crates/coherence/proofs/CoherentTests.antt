@@ -1,7 +1,8 @@
 -- Number 12 from what the code reads of the parts: which events have a line, and the places of those that are done.
+use Rattle.std.proofs.lemmas.Bool.{and_left as and_fails_left, and_right as and_fails_right}
 use Prim.Native.Nat.{ℕ, ◌≤◌, ◌<◌}
 use native.Mathlib.Omega.{arith}
-use borrow.Author.Tests.{lt-ltb, ltb-false, not-true, not-false, leb-true}
+use borrow.Author.Tests.{lt-ltb, ltb-false, not-true, lt-leb, le-leb}
 use mathlib.Core.Bool.{Bool, true, false, not, ◌&&◌, ◌||◌, and-true, and-false}
 use mathlib.Core.List.{List}
 use mathlib.Core.Logic.{inl, inr}
@@ -21,12 +22,6 @@ use Rattle.plan.proofs.Arrays.{read_in}
 use Rattle.plan.proofs.Loops.{all_fail}
 use Rattle.plan.proofs.RuleReads.{two_named, triple_named}
 use Rattle.coherence.proofs.Lines.{listed_done}
-
-and_fails_left : (a b : Bool) → a ≡ false → (a && b) ≡ false
-and_fails_left a b h = rw h
-
-and_fails_right : (a b : Bool) → b ≡ false → (a && b) ≡ false
-and_fails_right a b h = rw h (and-false a)
 
 -- a held event may wait, and an open one's step is not closed
 abbrev may_be_held : Plan → Fates → ℕ → Bool
@@ -270,15 +265,14 @@ module _ (rule : Rule) (a b : ℕ) (names : (n : ℕ) × (n ≤ 16) × (named n 
         let q = conditional_inside c is in
         rw (is, p.done a, p.done b, p.done c, lt-ltb a 16 q.0, lt-ltb b 16 q.1, lt-ltb c 16 q.2)
 
--- an order and a need await nothing
-module _ (p : Plan) (f : Fates) (h : List Entry) (rule : Rule) (a b : ℕ) where
-  pub order_awaits : rule ≡ Order a b → false ≡ awaits p f h rule
-  unfolding awaits
-  order_awaits is = rw is
-
-  pub need_awaits : rule ≡ Need a b → false ≡ awaits p f h rule
-  unfolding awaits
-  need_awaits is = rw is
+-- a rule that is no conditional awaits nothing
+pub awaits_not : (p : Plan) (f : Fates) (h : List Entry) (rule : Rule)
+    → ((a b c : ℕ) → rule ≡ Conditional a b c → ⊥)
+    → false ≡ awaits p f h rule
+unfolding awaits
+awaits_not p f h (Order a b) not = refl
+awaits_not p f h (Need a b) not = refl
+awaits_not p f h (Conditional a b c) not = absurd (not a b c refl)
 
 -- what a conditional awaits, as the code reads it
 abbrev unstoppable_as : Event → Fate → Bool
@@ -318,53 +312,50 @@ module _ (events : List Event) (standings : List Standing) (places : List ℕ) (
       rw (is, hu, hv, hw, hz, done a q.0, done b q.1, fate a q.0, fate b q.1, fate c q.2, event a q.0, event b q.1, event c q.2)
 
 -- the tests of number 12 in turn: the first that fails decides
-module _ (p : Plan) (len : ℕ) where
+module _ (p : Plan) (len : ℕ) (f : Fates) (broken closed : List Bool) (h : List Entry) where
   abbrev few : Bool
   few = leb (event_count p) 16 && leb (rule_count p) 16 && leb len 16
 
-  pub few_events : not few ≡ false → event_count p ≤ 16
-  few_events is =
-      leb-true (event_count p) 16
-      (and_left (leb (event_count p) 16) (leb (rule_count p) 16)
-      (and_left (leb (event_count p) 16 && leb (rule_count p) 16) (leb len 16) (not-false few is)))
+  abbrev declared : Bool
+  declared = declared_only h (event_count p)
 
-  pub few_rules : not few ≡ false → rule_count p ≤ 16
-  few_rules is =
-      leb-true (rule_count p) 16
-      (and_right (leb (event_count p) 16) (leb (rule_count p) 16)
-      (and_left (leb (event_count p) 16 && leb (rule_count p) 16) (leb len 16) (not-false few is)))
+  abbrev events : Bool
+  events = events_cohere p f closed h
 
-  module _ (f : Fates) (broken closed : List Bool) (h : List Entry) where
-    abbrev declared : Bool
-    declared = declared_only h (event_count p)
+  pub many_events : 16 < event_count p → coheres p f broken closed h len ≡ false
+  unfolding coheres
+  many_events many = rw (lt-leb (event_count p) 16 many)
 
-    abbrev events : Bool
-    events = events_cohere p f closed h
+  pub many_rules : 16 < rule_count p → coheres p f broken closed h len ≡ false
+  unfolding coheres
+  many_rules many = rw (lt-leb (rule_count p) 16 many, and-false (leb (event_count p) 16))
 
-    pub many_fail : not few ≡ true → coheres p f broken closed h len ≡ false
-    unfolding coheres
-    many_fail bad = rw (not-true few bad)
+  pub many_lines : 16 < len → coheres p f broken closed h len ≡ false
+  unfolding coheres
+  many_lines many = rw (lt-leb len 16 many, and-false (leb (event_count p) 16 && leb (rule_count p) 16))
 
-    pub events_fail : events ≡ false → coheres p f broken closed h len ≡ false
-    unfolding coheres
-    events_fail bad = rw (bad, and-false (few && declared))
+  pub events_fail : events ≡ false → coheres p f broken closed h len ≡ false
+  unfolding coheres
+  events_fail bad = rw (bad, and-false (few && declared))
 
-    -- a history that does not go with the events
-    pub lines_fail : (declared && all_below (event_count p) (λ e. listed_as h e (f e))) ≡ false
-        → coheres p f broken closed h len ≡ false
-    unfolding coheres
-    lines_fail bad = elim (either declared) [
-      | inr d ↦ rw (d, and-false few)
-      | inl d ↦ events_fail (elim (either events) [
-        | inr e ↦ e
-        | inl e ↦ absurd (clash (all_of (event_count p) (λ k. listed_as h k (f k))
-            (λ k lt. event_listed p f closed h k (all_at (event_count p) (event_coheres p f closed h) e k lt))) (and_not declared _ bad d))
-      ])
-    ]
+  -- a history that does not go with the events
+  pub lines_fail : (declared && all_below (event_count p) (λ e. listed_as h e (f e))) ≡ false
+      → coheres p f broken closed h len ≡ false
+  unfolding coheres
+  lines_fail bad = elim (either declared) [
+    | inr d ↦ rw (d, and-false few)
+    | inl d ↦ events_fail (elim (either events) [
+      | inr e ↦ e
+      | inl e ↦ absurd (clash (all_of (event_count p) (λ k. listed_as h k (f k))
+          (λ k lt. event_listed p f closed h k (all_at (event_count p) (event_coheres p f closed h) e k lt))) (and_not declared _ bad d))
+    ])
+  ]
 
-    pub rules_decide : not few ≡ false
-        → declared ≡ true
-        → events ≡ true
-        → coheres p f broken closed h len ≡ (rules_cohere p f broken h && sound_windows p)
-    unfolding coheres
-    rules_decide is d e = rw (not-false few is, d, e)
+  pub rules_decide : event_count p ≤ 16
+      → rule_count p ≤ 16
+      → len ≤ 16
+      → declared ≡ true
+      → events ≡ true
+      → coheres p f broken closed h len ≡ (rules_cohere p f broken h && sound_windows p)
+  unfolding coheres
+  rules_decide es rs ls d e = rw (le-leb (event_count p) 16 es, le-leb (rule_count p) 16 rs, le-leb len 16 ls, d, e)

@@ -9,7 +9,9 @@ use mathlib.Core.Logic.{◌≢◌, ◌⊎◌, inl, inr}
 use mathlib.Core.Path.{◌≡◌, refl, sym, ◌∙◌, ap}
 use lib.Dec.{eqb, ltb, leb}
 use lib.ListN.{length, take, drop, get_or, set, replicate, length-set, length-replicate}
-use lib.Seq.{get_or-set_same, get_or-set_other}
+use lib.Seq.{get_or-set_same, get_or-set_other, get_or-take}
+use Rattle.std.proofs.lemmas.List.{length-take}
+use Rattle.std.specs.Prelude.{None}
 use Rattle.coherence.specs.Prelude.{Fate, Open, Standing, Entry}
 use Rattle.plan.specs.Base.{read_at}
 use Rattle.plan.specs.Fates.{Fates, is_done, is_settled, same_fate, fate_number, blank_standing, fates_of}
@@ -192,12 +194,14 @@ module _ (history : List Entry) (len count : ℕ) (standings : List Standing) wh
 
   module _ (whole : length history ≡ 16) (listed : List Bool) (places : List ℕ) (i : ℕ)
       (t : Turn history len count standings listed places i) where
-    pub turn_all : min len 16 ≤ i
-        → Listed (take len history) count (fates_of standings) (record { ok = true; listed = listed; places = places })
-    turn_all ge = record { passes = λ is. told (rw (lines_all history len i whole ge) at t.passed); fails = λ is. absurd (clash refl is) }
+    pub turn_all : (n : ℕ)
+        → n ≡ min len 16
+        → length (take n history) ≤ i
+        → Told (take len history) count (fates_of standings) (record { listed = listed; places = places })
+    turn_all n few ge = told (rw (lines_all history len i whole (omega (arith, length-take n history))) at t.passed)
       where
         told : Passed (take len history) i count (fates_of standings) (λ e. read_at 16 listed e false) (place_in places)
-            → Told (take len history) count (fates_of standings) (record { ok = true; listed = listed; places = places })
+            → Told (take len history) count (fates_of standings) (record { listed = listed; places = places })
         told p = record {
           declared = p.declared;
           events = listed_if count (fates_of standings) (take len history) i _ _ p;
@@ -206,21 +210,26 @@ module _ (history : List Entry) (len count : ℕ) (standings : List Standing) wh
 
     -- a line shows the history wrong
     fail_declared : declared_only (take len history) count ≡ false
-        → Listed (take len history) count (fates_of standings) (record { ok = false; listed = listed; places = places })
-    fail_declared f = record { passes = λ is. absurd (clash is refl); fails = λ is. rw f }
+        → Listed (take len history) count (fates_of standings) None
+    fail_declared f = rw f
 
     fail_listed : (e : ℕ)
         → e < count
         → listed_as (take len history) e (fates_of standings e) ≡ false
-        → Listed (take len history) count (fates_of standings) (record { ok = false; listed = listed; places = places })
-    fail_listed e lt f = record {
-      passes = λ is. absurd (clash is refl);
-      fails = λ is.
-          rw (all_fail count (λ k. listed_as (take len history) k (fates_of standings k)) e lt f)
-          (and-false (declared_only (take len history) count));
-    }
+        → Listed (take len history) count (fates_of standings) None
+    fail_listed e lt f =
+        rw (all_fail count (λ k. listed_as (take len history) k (fates_of standings k)) e lt f)
+        (and-false (declared_only (take len history) count))
 
-    module _ (l : Entry) (is : get_or history i blank_entry ≡ l) (more : i < min len 16) where
+    -- a line that the code reads, of the n lines that a length stands for
+    module _ (n : ℕ) (few : n ≡ min len 16) (within : i < length (take n history))
+        (l : Entry) (read : l ≡ get_or (take n history) i blank_entry) where
+      more : i < min len 16
+      more = omega (arith, length-take n history)
+
+      is : get_or history i blank_entry ≡ l
+      is = sym (read ∙ get_or-take n history i blank_entry (omega (arith, more)))
+
       cut : take len history ≡ take i (take len history) ++ (l ∷ drop (i + 1) (take len history))
       cut =
           lines_cut history len i whole more
@@ -237,7 +246,7 @@ module _ (history : List Entry) (len count : ℕ) (standings : List Standing) wh
           (read_at 16 listed l.event false) (t.passed.fates l.event) (rw (fate, has) w)
 
       pub turn_undeclared : (leb 16 l.event || leb count l.event) ≡ true
-          → Listed (take len history) count (fates_of standings) (record { ok = false; listed = listed; places = places })
+          → Listed (take len history) count (fates_of standings) None
       turn_undeclared w = elim (dec_lt l.event count) [
         | no ge ↦ fail_declared (ap (λ ls. declared_only ls count) cut
             ∙ undeclared_line (take i (take len history)) (drop (i + 1) (take len history)) l count (omega arith))
@@ -266,7 +275,7 @@ module _ (history : List Entry) (len count : ℕ) (standings : List Standing) wh
         has_is = read_in 16 listed l.event false inside
 
         pub turn_wrong : (get_or listed l.event false || not (is_settled x && same_fate l.fate x)) ≡ true
-            → Listed (take len history) count (fates_of standings) (record { ok = false; listed = listed; places = places })
+            → Listed (take len history) count (fates_of standings) None
         turn_wrong w = fail_listed l.event known (wrong_listed x _ fate_is has_is w)
 
         module _ (w : (get_or listed l.event false || not (is_settled x && same_fate l.fate x)) ≡ false) where

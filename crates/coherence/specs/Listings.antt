@@ -1,5 +1,5 @@
 -- What one pass over the lines of a history tells of its events.
-use Rattle.std.specs.Prelude.{◌&&◌, ◌≡◌}
+use Rattle.std.specs.Prelude.{◌&&◌, ◌≡◌, Option, MatchOption}
 use Rattle.coherence.specs.Prelude.{ℕ, Bool, true, false, not, List, ltb, Entry, Listing}
 use Rattle.plan.specs.Base.{all_below, read_at}
 use Rattle.plan.specs.Fates.{Fates, is_settled}
@@ -25,7 +25,7 @@ pub record Told (h : List Entry) (n : ℕ) (f : Fates) (l : Listing) : Type 0 wh
   pub events : Marked h f l.listed
   pub placed : Placed h (place_in l.places)
 
--- the pass tells that, or a line shows that the history does not go with the events and their fates (10.4)
-pub record Listed (h : List Entry) (n : ℕ) (f : Fates) (l : Listing) : Type 0 where
-  pub passes : l.ok ≡ true → Told h n f l
-  pub fails : l.ok ≡ false → (declared_only h n && all_below n (λ e. listed_as h e (f e))) ≡ false
+-- the pass tells that; where it tells nothing, a line shows that the history does not go with the events and their fates
+-- (10.4)
+abbrev pub Listed : List Entry → ℕ → Fates → Option Listing → Type 0
+Listed h n f r = MatchOption r ((declared_only h n && all_below n (λ e. listed_as h e (f e))) ≡ false) (Told h n f)

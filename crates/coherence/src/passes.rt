@@ -31,43 +31,35 @@ pub fn does_cohere(
 ) -> bool
     ensures { result ≡ coheres plan (fates_of standings) broken closed (take len history) len }
 {
-    let event_count = plan.event_count;
-    let rule_count = plan.rule_count;
-    if !((event_count <= 16) & (rule_count <= 16) & (len <= 16)) {
+    if plan.event_count > 16 || plan.rule_count > 16 || len > 16 {
         return false;
     }
-    let listing = list_events(history, len, event_count, standings);
-    if !listing.ok {
+    let Some(listing) = list_events(history, len, plan.event_count, standings) else {
         return false;
-    }
-    let listed = listing.listed;
-    let places = listing.places;
-    if !are_events_coherent(plan, standings, closed, listed) {
-        return false;
-    }
-    are_rules_coherent(plan, standings, broken, places) & are_windows_sound(plan)
+    };
+    are_events_coherent(plan, standings, closed, listing.listed)
+        && are_rules_coherent(plan, standings, broken, listing.places)
+        && are_windows_sound(plan)
 }
 
 // Does every event's place hold no window, or one that a sheet could give the event?
 fn are_windows_sound(plan: Plan) -> bool
     ensures { result ≡ sound_windows plan }
 {
-    let event_count = plan.event_count;
-    let events = plan.events;
-    let windows = plan.windows;
-    let mut e: u8 = 0;
-    while e < 16 {
-        let window = windows[e as usize];
-        let event = events[e as usize];
-        if !is_right(window, e < event_count, event.attributes) {
+    for (e, window) in plan.windows.iter().enumerate() {
+        if !is_right(
+            *window,
+            e < plan.event_count as usize,
+            plan.events[e].attributes,
+        ) {
             return false;
         }
-        e += 1;
     }
     true
 }
 
 // Is there no window, or one that ends after it begins, of a declared event that is delayable?
+#[tactic(auto, unfolding(crate::specs::Cohering::right_as))]
 fn is_right(window: Window, declared: bool, attributes: u8) -> bool
     ensures { result ≡ right_as declared attributes window }
 {
@@ -85,24 +77,18 @@ fn are_events_coherent(
     requires { event_count plan ≤ 16 }
     ensures { (h : List Entry) → Marked h (fates_of standings) listed → result ≡ events_cohere plan (fates_of standings) closed h }
 {
-    let event_count = plan.event_count;
-    let events = plan.events;
-    let mut i: u8 = 0;
-    while i < event_count {
-        let event = events[i as usize];
-        let standing = standings[i as usize];
-        let fate = standing.fate;
+    for i in 0..plan.event_count as usize {
+        let event = plan.events[i];
+        let fate = standings[i].fate;
         if !is_sound(event) {
             return false;
         }
-        let step = event.step;
-        if (is_settled(fate) & !listed[i as usize])
+        if (is_settled(fate) & !listed[i])
             | !may_be_held(event, fate)
-            | (is_open(fate) & closed[step as usize])
+            | (is_open(fate) & closed[event.step as usize])
         {
             return false;
         }
-        i += 1;
     }
     true
 }
@@ -111,14 +97,14 @@ fn are_events_coherent(
 fn is_sound(event: Event) -> bool
     ensures { result ≡ (not (bad_step event.step) && not (bad_attributes event.attributes)) }
 {
-    !(7 < event.step) & !are_bad(event.attributes)
+    (event.step <= 7) & !are_bad(event.attributes)
 }
 
 // A held event is delayable.
 fn may_be_held(event: Event, fate: Fate) -> bool
     ensures { result ≡ not (is_held fate && not (holds_bit 4 event.attributes)) }
 {
-    !(is_held(fate) & !is_delayable(event.attributes))
+    !is_held(fate) | is_delayable(event.attributes)
 }
 
 // Are the declared rules coherent with the events and the history? The events are; `places` says which of them are
@@ -132,23 +118,16 @@ fn are_rules_coherent(
     requires { (event_count plan ≤ 16) × (rule_count plan ≤ 16) }
     ensures { (closed : List Bool) (h : List Entry) → Placed h (place_in places) → events_cohere plan (fates_of standings) closed h ≡ true → result ≡ rules_cohere plan (fates_of standings) broken h }
 {
-    let event_count = plan.event_count;
-    let rule_count = plan.rule_count;
-    let events = plan.events;
-    let rules = plan.rules;
-    let mut i: u8 = 0;
-    while i < rule_count {
-        let line = rules[i as usize];
-        let rule = line.rule;
-        if !is_admitted(event_count, events, rule) {
+    for i in 0..plan.rule_count as usize {
+        let rule = plan.rules[i].rule;
+        if !is_admitted(plan.event_count, plan.events, rule) {
             return false;
         }
-        if !(broken[i as usize]
-            | (does_hold(places, rule) & !does_await(events, standings, places, rule)))
+        if !(broken[i]
+            | (does_hold(places, rule) & !does_await(plan.events, standings, places, rule)))
         {
             return false;
         }
-        i += 1;
     }
     true
 }
@@ -161,15 +140,14 @@ fn is_admitted(count: u8, events: [Event; 16], rule: Rule) -> bool
 }
 
 // Does the rule hold? Its events have places: 0 for one that is not done, else a number in the order of the history.
+#[tactic(auto, unfolding(plan::specs::Rules::named))]
 fn does_hold(places: [u8; 16], rule: Rule) -> bool
     requires { (n : ℕ) × (n ≤ 16) × (named n rule ≡ true) }
     ensures { (h : List Entry) → Placed h (place_in places) → result ≡ holds h rule }
 {
     match rule {
         Rule::Order(a, b) => {
-            let first = places[a as usize];
-            let last = places[b as usize];
-            !((0 < last) & (last < first))
+            !((0 < places[b as usize]) & (places[b as usize] < places[a as usize]))
         }
         Rule::Need(a, b) => !((0 < places[a as usize]) & !(0 < places[b as usize])),
         Rule::Conditional(a, b, c) => {
@@ -179,29 +157,19 @@ fn does_hold(places: [u8; 16], rule: Rule) -> bool
 }
 
 // Does a conditional owe because nothing can stop one of its triggers, which is open, while the other is done (6.10)?
+#[tactic(auto, unfolding(plan::specs::Rules::named))]
 fn does_await(events: [Event; 16], standings: [Standing; 16], places: [u8; 16], rule: Rule) -> bool
     requires { (n : ℕ) × (n ≤ 16) × (named n rule ≡ true) }
     ensures { (p : Plan) (h : List Entry) → p.events ≡ events → Placed h (place_in places) → result ≡ awaits p (fates_of standings) h rule }
 {
-    match rule {
-        Rule::Order(a, b) => false,
-        Rule::Need(a, b) => false,
-        Rule::Conditional(a, b, c) => {
-            let first = standings[a as usize];
-            let second = standings[b as usize];
-            let third = standings[c as usize];
-            let x = first.fate;
-            let y = second.fate;
-            let z = third.fate;
-            let early = events[a as usize];
-            let late = events[b as usize];
-            let called = events[c as usize];
-            (((0 < places[a as usize]) & is_unstoppable(late, y))
-                | ((0 < places[b as usize]) & is_unstoppable(early, x)))
-                & !is_forcible(called.attributes)
-                & !is_settled(z)
-        }
-    }
+    let Rule::Conditional(a, b, c) = rule else {
+        return false;
+    };
+    let (a, b, c) = (a as usize, b as usize, c as usize);
+    (((0 < places[a]) & is_unstoppable(events[b], standings[b].fate))
+        | ((0 < places[b]) & is_unstoppable(events[a], standings[a].fate)))
+        & !is_forcible(events[c].attributes)
+        & !is_settled(standings[c].fate)
 }
 
 // Is the event open, and neither rejectable nor delayable?

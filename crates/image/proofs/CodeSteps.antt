@@ -1,27 +1,23 @@
 -- What the functions of the image come to at their ends: rows written one after another, and a call noted.
-use Prim.Native.Nat.{ℕ, ◌≤◌, ◌<◌}
-use native.Mathlib.Omega.{arith}
+use Prim.Native.Nat.{ℕ}
 use native.Mathlib.Nat.{add-zero}
-use borrow.Author.Tests.{not-true, not-false}
-use mathlib.Core.Bool.{Bool, true, false, not, cond}
+use mathlib.Core.Bool.{true, cond}
 use mathlib.Core.List.{List}
 use mathlib.Core.Logic.{inl, inr}
 use mathlib.Core.Path.{◌≡◌, refl, sym, ◌∙◌, ap, subst}
 use lib.ListN.{length, set, replicate}
-use Rattle.image.specs.Types.{Plan, State, Call, Answer, Is, Made, TurnedDown, Reply}
-use Rattle.plan.specs.Faults.{answer_number, is_turned_down}
+use Rattle.image.specs.Types.{Plan, State, Call, Reply}
+use Rattle.plan.specs.Faults.{is_turned_down}
 use Rattle.plan.specs.Plans.{event_count, rule_count}
 use Rattle.plan.proofs.Tests.{either}
 use Rattle.scheduler.specs.Answers.{call}
-use Rattle.scheduler.specs.Coherent.{coherent}
 use Rattle.scheduler.specs.State.{line_count}
 use Rattle.image.specs.Layout.{step_at, attributes_at, kind_at, a_at, b_at, c_at, fate_at, mark_at, shut_at, line_event_at, line_fate_at, minute_at, from_at, until_at, word_byte, image_of, state_in, is_image}
-use Rattle.image.specs.Calls.{number_on, image_after, is_sound, check_on}
+use Rattle.image.specs.Calls.{image_after}
 use Rattle.image.specs.Internal.Writes.{put_to, written, step_byte, attributes_byte, kind_byte, a_byte, b_byte, c_byte, from_byte, until_byte, fate_byte, mark_byte, line_event_byte, line_fate_byte, with_plan, with_call}
-use Rattle.image.proofs.Numbers.{fault_above}
 use Rattle.image.proofs.Bytes.{ShowsPlan, shows_image, call_shown, call_length, written_whole}
 use Rattle.image.proofs.Images.{said_shows, said_whole}
-use Rattle.image.proofs.ImageCalls.{call_plan, number_none, after_none, number_image, after_image, turned_down_image}
+use Rattle.image.proofs.ImageCalls.{call_plan, after_image, turned_down_image}
 
 -- one row after another
 next : (at n : ℕ) (g : ℕ → ℕ) (b m l : List ℕ) → l ≡ put_to at g m n → m ≡ b → l ≡ put_to at g b n
@@ -64,81 +60,24 @@ put_plan_rows p b b1 b2 b3 b4 b5 b6 b7 b8 h1 h2 h3 h4 h5 h6 h7 h8 =
 pub put_whole : (s : State) (b1 b2 : List ℕ) → b1 ≡ with_plan s.plan (replicate 384 0) → b2 ≡ with_call s b1 → b2 ≡ image_of s
 put_whole s b1 b2 h e = e ∙ ap (with_call s) h ∙ written_whole s
 
--- what an answer makes of the bytes: a number above 0 is a refusal
-above : (a : Answer) → 0 < answer_number a → is_turned_down a ≡ true
-above (Is x) h = absurd (omega arith)
-above Made h = absurd (omega arith)
-above (TurnedDown f) h = refl
-
-at_zero : (a : Answer) → answer_number a ≤ 0 → is_turned_down a ≡ false
-at_zero (Is x) h = refl
-at_zero Made h = refl
-at_zero (TurnedDown f) h = absurd (omega (arith, fault_above f))
-
-module _ (a : Answer) (n : ℕ) (b t : List ℕ) (e : n ≡ answer_number a) where
-  pub note_down : 0 < n → (n ≡ answer_number a) × (b ≡ cond (is_turned_down a) b t)
-  note_down h = let d : is_turned_down a ≡ true = above a (omega (arith, e)) in (e, rw d)
-
-  pub note_taken : (l : List ℕ) → n ≤ 0 → l ≡ t → (◌≡◌ {A = ℕ} 0 (answer_number a)) × (l ≡ cond (is_turned_down a) b t)
-  note_taken l h k = let d : is_turned_down a ≡ false = at_zero a (omega (arith, e)) in (omega (arith, e), rw d k)
-
--- the ends of a function that begins by asking whether the bytes are an image
-module _ (b : List ℕ) (t : Bool) (e : t ≡ is_image b) where
-  no_image : not t ≡ true → is_image b ≡ false
-  no_image h = sym e ∙ not-true t h
-
-  an_image : not t ≡ false → is_image b ≡ true
-  an_image h = sym e ∙ not-false t h
-
-  pub damaged : (c : Call) → not t ≡ true → (◌≡◌ {A = ℕ} 12 (number_on b c)) × (b ≡ image_after b c)
-  damaged c h = (sym (number_none b c (no_image h)), sym (after_none b c (no_image h)))
-
-  -- the plan that they show is also that of the state after a call, and so its image is the bytes with what changed
-  noted : (c : Call) → length b ≡ 384 → is_image b ≡ true → with_call (call (state_in b) c).state b ≡ image_of (call (state_in b) c).state
-  noted c z h =
+-- a call noted on an image: the plan that the bytes show is also that of the state after the call, and so its image is
+-- the bytes with what changed
+module _ (b : List ℕ) (c : Call) (z : length b ≡ 384) (h : is_image b ≡ true) where
+  noted : with_call (call (state_in b) c).state b ≡ image_of (call (state_in b) c).state
+  noted =
       let s = (call (state_in b) c).state in
       let p : s.plan ≡ (state_in b).plan = call_plan (state_in b) c (said_whole b).sized in
       shows_image s (with_call s b) (call_length s b z)
       (call_shown s b z (subst (λ (q : Plan). ShowsPlan q b) (sym p) (said_shows b h).plan))
 
-  pub called : (c : Call)
-      → length b ≡ 384
-      → not t ≡ false
-      → (s : State)
-      → s ≡ state_in b
-      → (r : Reply)
-      → r ≡ call s c
-      → (n : ℕ) (l : List ℕ)
-      → (n ≡ answer_number r.answer) × (l ≡ cond (is_turned_down r.answer) b (with_call r.state b))
-      → (n ≡ number_on b c) × (l ≡ image_after b c)
-  called c z h s g r k n l w =
-      (w.0 ∙ ap (λ (x : Reply). answer_number x.answer) at ∙ sym (number_image b c is), w.1 ∙ ap (λ (x : Reply). cond (is_turned_down x.answer) b (with_call x.state b)) at ∙ bytes)
-    where
-      at : r ≡ call (state_in b) c
-      at = k ∙ ap (λ (x : State). call x c) g
-
-      is : is_image b ≡ true
-      is = an_image h
-
-      bytes : cond (is_turned_down (call (state_in b) c).answer) b (with_call (call (state_in b) c).state b) ≡ image_after b c
-      bytes = elim (either (is_turned_down (call (state_in b) c).answer)) [
+  pub called : (r : Reply) (l : List ℕ)
+      → r ≡ call (state_in b) c
+      → l ≡ cond (is_turned_down r.answer) b (with_call r.state b)
+      → l ≡ image_after b c
+  called r l e k =
+      k
+      ∙ ap (λ (x : Reply). cond (is_turned_down x.answer) b (with_call x.state b)) e
+      ∙ elim (either (is_turned_down (call (state_in b) c).answer)) [
         | inl d ↦ rw d (sym (turned_down_image b c z d))
-        | inr d ↦ rw d (noted c z is ∙ sym (after_image b c is))
+        | inr d ↦ rw d (noted ∙ sym (after_image b c h))
       ]
-
-  pub unsound : not t ≡ true → false ≡ is_sound b
-  unfolding is_sound
-  unsound h = rw (no_image h)
-
-  pub judged : not t ≡ false → (s : State) → s ≡ state_in b → (r : Bool) → r ≡ coherent s → r ≡ is_sound b
-  unfolding is_sound
-  judged h s g r k = rw (an_image h) (k ∙ ap coherent g)
-
--- the number of the check
-pub check_sound : (b : List ℕ) (t : Bool) → t ≡ is_sound b → t ≡ true → ◌≡◌ {A = ℕ} 0 (check_on b)
-unfolding check_on
-check_sound b t e h = let is : is_sound b ≡ true = sym e ∙ h in rw is
-
-pub check_unsound : (b : List ℕ) (t : Bool) → t ≡ is_sound b → t ≡ false → ◌≡◌ {A = ℕ} 12 (check_on b)
-unfolding check_on
-check_unsound b t e h = let is : is_sound b ≡ false = sym e ∙ h in rw is

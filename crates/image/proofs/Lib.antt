@@ -4,6 +4,7 @@ pub mod Numbers
 pub mod Words
 pub mod Bytes
 pub mod RowLoops
+pub mod Made
 pub mod Images
 pub mod ImageCalls
 pub mod ByteNumbers

@@ -1,15 +1,14 @@
 -- Fates, marks and rules as numbers, and back.
 use Prim.Native.Nat.{ℕ, zero, suc, ◌≤◌, ◌<◌}
 use native.Mathlib.Omega.{arith}
-use borrow.Author.Tests.{ltb-true, eqb-true, eq-eqb, ne_eqb}
+use borrow.Author.Tests.{ltb-true, eqb-true}
 use mathlib.Core.Bool.{Bool, true, false, ◌&&◌, ◌||◌}
-use mathlib.Core.Logic.{◌≢◌}
 use mathlib.Core.Path.{◌≡◌, refl, sym}
 use lib.Dec.{eqb, ltb}
-use Rattle.image.specs.Types.{Fate, Open, Held, Done, Refused, Lapsed, Forced, Rule, Order, Need, Conditional, Record, Answer, Is, Made, TurnedDown, Verdict, Faulty, SheetFault, Cut, BadKind, Full, BadStep, BadAttributes, BadNames, Unenforceable, Extra, BadWindow, CallFault, Unknown, AlreadyClosed, NotClosed, Incoherent, TooLong, NoRoom, Backward}
+use Rattle.image.specs.Types.{Fate, Open, Held, Done, Refused, Lapsed, Forced, Rule, Order, Need, Conditional, Record, Answer, Is, Made, TurnedDown, Verdict, Err, SheetFault, Cut, BadKind, Full, BadStep, BadAttributes, BadNames, Unenforceable, Extra, BadWindow, CallFault, Unknown, AlreadyClosed, NotClosed, Incoherent, TooLong, NoRoom, Backward}
 use Rattle.plan.specs.Base.{one_if}
 use Rattle.plan.specs.Fates.{fate_number}
-use Rattle.plan.specs.Faults.{sheet_fault_number, call_fault_number, answer_number}
+use Rattle.plan.specs.Faults.{refusal, sheet_fault_number, call_fault_number, answer_number}
 use Rattle.plan.specs.Records.{rule_of}
 use Rattle.image.specs.Layout.{fate_from, rule_kind, rule_a, rule_b, rule_c}
 
@@ -86,29 +85,6 @@ rule_bytes (suc (suc (suc zero))) x y z lo hi h = record { kind_is = refl; a_is 
 rule_bytes (suc (suc (suc (suc zero)))) x y z lo hi h = record { kind_is = refl; a_is = refl; b_is = refl; c_is = refl }
 rule_bytes (suc (suc (suc (suc (suc k))))) x y z lo hi h = absurd (omega (arith, ltb-true (suc (suc (suc (suc (suc k))))) 5 hi))
 
--- a number past the others is the last fate's
-pub fate_past : (n : ℕ) → n ≢ 0 → n ≢ 1 → n ≢ 2 → n ≢ 3 → n ≢ 4 → Forced ≡ fate_from n
-fate_past zero a b c d e = absurd (a refl)
-fate_past (suc zero) a b c d e = absurd (b refl)
-fate_past (suc (suc zero)) a b c d e = absurd (c refl)
-fate_past (suc (suc (suc zero))) a b c d e = absurd (d refl)
-fate_past (suc (suc (suc (suc zero)))) a b c d e = absurd (e refl)
-fate_past (suc (suc (suc (suc (suc n))))) a b c d e = refl
-
--- the rule of each kind
-module _ (k x y z : ℕ) where
-  pub kind_order : k ≡ 2 → Order x y ≡ rule_of (record { kind = k; x = x; y = y; z = z; from = 0; until = 0 })
-  unfolding rule_of
-  kind_order e = rw (eq-eqb k 2 e, rule_of)
-
-  pub kind_need : k ≢ 2 → k ≡ 3 → Need x y ≡ rule_of (record { kind = k; x = x; y = y; z = z; from = 0; until = 0 })
-  unfolding rule_of
-  kind_need n e = rw (ne_eqb k 2 n, eq-eqb k 3 e, rule_of)
-
-  pub kind_other : k ≢ 2 → k ≢ 3 → Conditional x y z ≡ rule_of (record { kind = k; x = x; y = y; z = z; from = 0; until = 0 })
-  unfolding rule_of
-  kind_other n m = rw (ne_eqb k 2 n, ne_eqb k 3 m, rule_of)
-
 -- the numbers of faults are bytes
 sheet_number_low : (f : SheetFault) → sheet_fault_number f ≤ 15
 sheet_number_low Cut = omega arith
@@ -130,7 +106,7 @@ call_number_low TooLong = omega arith
 call_number_low NoRoom = omega arith
 call_number_low Backward = omega arith
 
-pub sheet_byte : (v : Verdict) (f : SheetFault) (at n : ℕ) → v ≡ Faulty f at → n ≡ sheet_fault_number f → n < 256
+pub sheet_byte : (v : Verdict) (f : SheetFault) (at n : ℕ) → v ≡ Err (refusal f at) → n ≡ sheet_fault_number f → n < 256
 sheet_byte v f at n h e = omega (arith, e, sheet_number_low f)
 
 pub answer_byte : (a : Answer) → answer_number a < 256
@@ -138,6 +114,7 @@ answer_byte (Is x) = omega arith
 answer_byte Made = omega arith
 answer_byte (TurnedDown f) = omega (arith, call_number_low f)
 
+-- no fault has number 0
 pub fault_above : (f : CallFault) → 0 < call_fault_number f
 fault_above Unknown = omega arith
 fault_above AlreadyClosed = omega arith
@@ -146,3 +123,14 @@ fault_above Incoherent = omega arith
 fault_above TooLong = omega arith
 fault_above NoRoom = omega arith
 fault_above Backward = omega arith
+
+pub sheet_fault_above : (f : SheetFault) → 0 < sheet_fault_number f
+sheet_fault_above Cut = omega arith
+sheet_fault_above BadKind = omega arith
+sheet_fault_above Full = omega arith
+sheet_fault_above BadStep = omega arith
+sheet_fault_above BadAttributes = omega arith
+sheet_fault_above BadNames = omega arith
+sheet_fault_above Unenforceable = omega arith
+sheet_fault_above Extra = omega arith
+sheet_fault_above BadWindow = omega arith

@@ -7,10 +7,20 @@ use mathlib.Core.Bool.{true}
 use mathlib.Core.List.{List, [], ◌∷◌}
 use mathlib.Core.Path.{◌≡◌, refl, sym, ◌∙◌, ap}
 use lib.ListN.{get_or}
+use Rattle.std.proofs.Common.{w32}
+use Rattle.std.specs.Int.{to_le_bytes}
 use Rattle.plan.specs.Records.{word_of, word_at}
 use Rattle.plan.specs.Calls.{bytes_of}
 use Rattle.plan.proofs.CallRecords.{word_back, bytes_back}
-use Rattle.image.specs.Layout.{byte_at, word_byte, row_byte, is_byte, is_word}
+use Rattle.plan.specs.Base.{all_below}
+use Rattle.plan.proofs.Tests.{all_of}
+use Rattle.image.specs.Layout.{byte_at, minute_at, word_byte, row_byte, is_byte, is_word, word_ok}
+
+-- the library's bytes of a number below 2^32
+pub low_first : (m : ℕ) → m < 4294967296 → to_le_bytes w32 m ≡ bytes_of m
+low_first m lt =
+    let top : m / 16777216 % 256 ≡ m / 16777216 = omega arith in
+    ap (λ (x : ℕ). m % 256 ∷ m / 256 % 256 ∷ m / 65536 % 256 ∷ x ∷ []) top
 
 -- bytes that show a number say it
 pub word_said : (b : List ℕ) (at m : ℕ) → ((k : ℕ) → k < 4 → byte_at b (at + k) ≡ word_byte m k) → word_at b at ≡ m
@@ -78,3 +88,13 @@ word_byte_lem m (suc zero) h lt = (word_low m).1
 word_byte_lem m (suc (suc zero)) h lt = (word_low m).2
 word_byte_lem m (suc (suc (suc zero))) h lt = lt-ltb (m / 16777216) 256 (omega (arith, ltb-true m 4294967296 h))
 word_byte_lem m (suc (suc (suc (suc k)))) h lt = absurd (omega arith)
+
+-- the lower three bytes of every number of four bytes pass their test, since all bytes do
+pub words_pass : (b : List ℕ) → ((k : ℕ) → byte_at b k < 256) → all_below 33 (word_ok b) ≡ true
+unfolding word_ok
+words_pass b h = all_of 33 (word_ok b) (λ e lt.
+    rw (
+      lt-ltb (byte_at b (minute_at + 4 * e)) 256 (h (minute_at + 4 * e)),
+      lt-ltb (byte_at b (minute_at + 4 * e + 1)) 256 (h (minute_at + 4 * e + 1)),
+      lt-ltb (byte_at b (minute_at + 4 * e + 2)) 256 (h (minute_at + 4 * e + 2)),
+    ) refl)

@@ -1,7 +1,7 @@
 -- Calls on an image: their numbers, the bytes after them, and the check and the report of a kept state. Bytes that are
 -- no image are answered with 12 and stay as they are.
 use Rattle.std.specs.Prelude.{ℕ, Bool, ◌&&◌, cond, List, [], ◌∷◌, ◌≡◌}
-use Rattle.image.specs.Types.{State, Call, Verdict, Admitted, Faulty, Outcome}
+use Rattle.image.specs.Types.{State, Call, Verdict, Ok, Err, Outcome}
 use Rattle.plan.specs.Faults.{sheet_fault_number, answer_number}
 use Rattle.scheduler.specs.Coherent.{coherent}
 use Rattle.scheduler.specs.Answers.{call}
@@ -38,15 +38,15 @@ check_on b = cond (is_sound b) 0 12
 
 -- the number that opening a sheet gives: 0 if it is admitted, else that of its fault (5.14)
 abbrev pub verdict_number : Verdict → ℕ
-verdict_number v = elim v [ Admitted ↦ 0 | Faulty f at ↦ sheet_fault_number f ]
+verdict_number v = elim v [ Ok u ↦ 0 | Err e ↦ sheet_fault_number e.fault ]
 
 -- the offset of the fault; 0 if the sheet is admitted (5.14)
 abbrev pub verdict_offset : Verdict → ℕ
-verdict_offset v = elim v [ Admitted ↦ 0 | Faulty f at ↦ at ]
+verdict_offset v = elim v [ Ok u ↦ 0 | Err e ↦ e.at ]
 
 -- a kept state as the result of a run, with n calls turned down (5.18)
 abbrev pub kept_outcome : List ℕ → ℕ → Outcome
-kept_outcome b n = record { verdict = Admitted; state = state_in b; refused = n }
+kept_outcome b n = record { verdict = Ok tt; state = state_in b; refused = n }
 
 -- the report on a kept state, after n calls turned down; nothing if `check_on` gives 12 (5.18)
 unfoldable pub report_on : List ℕ → ℕ → List ℕ

@@ -18,8 +18,9 @@ pub use Rattle.plan.specs.declared.answer.Answer.{Answer}
 pub use Rattle.plan.specs.declared.answer.Answer.TheVariants.{Is, Made, TurnedDown}
 pub use Rattle.plan.specs.declared.answer.SheetFault.{SheetFault}
 pub use Rattle.plan.specs.declared.answer.SheetFault.TheVariants.{Cut, BadKind, Full, BadStep, BadAttributes, BadNames, Unenforceable, Extra, BadWindow}
-pub use Rattle.plan.specs.declared.answer.Verdict.{Verdict}
-pub use Rattle.plan.specs.declared.answer.Verdict.TheVariants.{Admitted, Faulty}
+pub use Rattle.plan.specs.declared.answer.Refusal.{Refusal}
+pub use Rattle.std.specs.Prelude.{Ok, Err}
+pub use Rattle.plan.specs.Faults.{Verdict}
 pub use Rattle.scheduler.specs.declared.state.State.{State}
 pub use Rattle.scheduler.specs.declared.reply.Reply.{Reply}
 pub use Rattle.scheduler.specs.declared.reply.Outcome.{Outcome}

@@ -3,6 +3,7 @@
 #![tactic(auto)]
 
 pub mod kept;
+mod layout;
 pub mod number;
 pub mod read;
 pub mod test;

@@ -4,17 +4,18 @@ use Prim.Native.Nat.{ℕ, ◌≤◌}
 use native.Mathlib.Omega.{arith}
 use mathlib.Core.Bool.{true}
 use mathlib.Core.List.{List, [], ◌∷◌, ◌++◌}
-use mathlib.Core.Option.{none}
+use Rattle.std.specs.declared.option.Option.TheVariants.{None as none}
 use mathlib.Core.Path.{◌≡◌}
 use lib.ListN.{length, take, drop}
 use lib.Pow.{are_bytes}
+use Rattle.std.specs.Prelude.{Ok, Err}
 use Rattle.scheduler.specs.State.{first_state}
 use Rattle.scheduler.specs.Coherent.{coherent}
 use Rattle.scheduler.specs.Sheet.{read_sheet, admitted}
 use Rattle.scheduler.specs.Answers.{call_fault, call}
 use Rattle.scheduler.specs.Lists.{scheduler, after, turned_down}
 use Rattle.scheduler.specs.Demand.{Demand3, seen}
-use Rattle.journal.specs.Types.{Plan, Call, Submit, Cut, State, JournalVerdict, Journal}
+use Rattle.journal.specs.Types.{Plan, Call, Submit, Cut, State, JournalFault, Journal}
 use Rattle.journal.specs.Records.{made, records, whole_within}
 use Rattle.journal.specs.Journals.{Opens, Unread, Appended, journal_of, open_journal, append, buffer_after}
 use Rattle.journal.specs.Claims.{SurvivesCut, AppendsCall}
@@ -83,8 +84,8 @@ module _ (b : List ℕ) (r : Journal) (end left : ℕ) (j : JournalHolds b r) wh
   held : (n : ℕ) → HoldsCalls b r.state n → Held r.state n
   held n h = (h.first, h.made, h.sheet_end, h.admits, h.accepted, h.written, h.state, h.demand3, h.hangs, h.before, h.inside)
 
-  pub opened_says : r.verdict ≡ JournalVerdict.Opened end left → Held r.state end
+  pub opened_says : r.verdict ≡ Ok (record { end = end; left = left }) → Held r.state end
   opened_says h = held end (j.opened end left h)
 
-  pub broken_says : r.verdict ≡ JournalVerdict.Broken end → Held r.state end
+  pub broken_says : r.verdict ≡ Err (JournalFault.Broken end) → Held r.state end
   broken_says h = held end (j.broken end h)

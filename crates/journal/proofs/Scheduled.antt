@@ -6,13 +6,15 @@ use borrow.Author.Tests.{ltb-false, le-ltb}
 use mathlib.Core.Bool.{Bool, true, false, not}
 use mathlib.Core.List.{List, [], ◌∷◌, ◌++◌, append-nil}
 use mathlib.Core.Logic.{◌⊎◌, inl, inr}
-use mathlib.Core.Option.{Option, none, some}
+use Rattle.std.specs.declared.option.Option.{Option}
+use Rattle.std.specs.declared.option.Option.TheVariants.{None as none, Some as some}
 use mathlib.Core.Path.{◌≡◌, refl, sym, ◌∙◌, ap, subst}
 use lib.Dec.{ltb}
 use lib.ListN.{length, get_or, take, drop, length-append, length-drop, get_or-append}
 use lib.Seq.{length-take-le, take_at, take-add, get_or-take, get_or-drop}
+use Rattle.std.specs.Prelude.{Ok, Err}
 use Rattle.plan.specs.Base.{one_if}
-use Rattle.plan.specs.Faults.{is_turned_down, first_fault}
+use Rattle.plan.specs.Faults.{refusal, is_turned_down, first_fault}
 use Rattle.plan.specs.Calls.{call_bytes, encode}
 use Rattle.plan.specs.Sheets.{PlanReading, whole, faulty, read_plan, ending, sheet_plan}
 use Rattle.scheduler.specs.State.{first_state}
@@ -24,7 +26,7 @@ use Rattle.scheduler.specs.Demand.{Demand3, seen}
 use Rattle.plan.proofs.Tables.{row_miss}
 use Rattle.theory.proofs.Coherence.{call_taken, fault_answer}
 use Rattle.theory.proofs.Demands.{demand3}
-use Rattle.journal.specs.Types.{Plan, Call, CallFault, Incoherent, SheetFault, Extra, Answer, Admitted, Faulty, State, Reading}
+use Rattle.journal.specs.Types.{Plan, Call, CallFault, Incoherent, SheetFault, Extra, Answer, State, Reading}
 use Rattle.journal.specs.Records.{Ran, size, run, records, made, Accepted, whole_within}
 use Rattle.journal.specs.Journals.{Opening, Opens, Broken, Appended, journal_of, open_journal, append_to, append, buffer_after}
 use Rattle.journal.specs.Claims.{opens_after, SurvivesCut, ExactlyWhole, AppendsCall, Kept}
@@ -76,7 +78,7 @@ module _ (b : List ℕ) where
 
 not_admitted_lem : {f : SheetFault} {at : ℕ} {s : State} → not_admitted f at ≡ admitted s → ⊥
 not_admitted_lem {f} {at} {s} h =
-    let e : Faulty f at ≡ Admitted = ap (λ (r : Reading). r.verdict) h in
+    let e : Err (refusal f at) ≡ Ok tt = ap (λ (r : Reading). r.verdict) h in
     let z : ◌≡◌ {A = ℕ} 0 1 = cc in
     omega arith
 

@@ -1,6 +1,6 @@
 -- What is claimed of journals: of a cut, of an appended record, and of what a host keeps.
 use Rattle.std.specs.Prelude.{ℕ, ◌+◌, ◌-◌, ◌≤◌, ◌<◌, Bool, true, false, List, [], ◌∷◌, ◌++◌, ◌≡◌, length, take, drop}
-use Rattle.std.proofs.Math.Option.{none}
+use Rattle.std.specs.declared.option.Option.TheVariants.{None as none}
 use Rattle.journal.specs.Types.{Plan, Cut}
 use Rattle.journal.specs.Records.{Keeping, size, records, made, Recorded, whole_within}
 use Rattle.journal.specs.Journals.{Opening, Opens, Unread, Appending, Appended, TooLong, BadSheet, BadRecord, TurnedDown, NoRoom, journal_of, open_journal, append, buffer_after}

@@ -1,6 +1,6 @@
 -- A journal: opening it, and appending a call's record to it.
 use Rattle.std.specs.Prelude.{ℕ, ◌+◌, ◌-◌, true, false, List, ◌++◌, ltb, length, take, drop}
-use Rattle.std.proofs.Math.Option.{none, some}
+use Rattle.std.specs.declared.option.Option.TheVariants.{None as none, Some as some}
 use Rattle.plan.specs.Sheets.{whole, faulty, read_plan}
 use Rattle.journal.specs.Types.{SheetFault}
 use Rattle.journal.specs.Records.{Keeping, Ran, size, run, records}

@@ -1,7 +1,8 @@
 -- The records of a journal, over calls of any sort: what a record is, what stands at the front of bytes, and the run of
 -- record after record.
 use Rattle.std.specs.Prelude.{ℕ, zero, suc, ◌+◌, ◌-◌, Bool, true, false, List, [], ◌∷◌, ◌++◌, ◌≡◌, eqb, ltb, leb, length, take, drop}
-use Rattle.std.proofs.Math.Option.{Option, none, some}
+use Rattle.std.specs.declared.option.Option.{Option}
+use Rattle.std.specs.declared.option.Option.TheVariants.{None as none, Some as some}
 use Rattle.journal.specs.Types.{Plan}
 
 -- what a journal records: calls on states, and a record for each call. `calls` in Calls.antt is the scheduler's (16.1)

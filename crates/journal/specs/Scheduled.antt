@@ -1,5 +1,5 @@
 -- What is claimed of a journal of the scheduler's calls.
-use Rattle.std.specs.Prelude.{ℕ, ◌+◌, ◌≤◌, ◌<◌, true, List, ◌++◌, ◌≡◌, length, take}
+use Rattle.std.specs.Prelude.{ℕ, ◌+◌, ◌≤◌, ◌<◌, true, List, ◌++◌, ◌≡◌, length, take, Ok, Err}
 use Rattle.std.proofs.Math.Pow.{are_bytes}
 use Rattle.plan.specs.Calls.{call_bytes, call_size}
 use Rattle.scheduler.specs.Coherent.{coherent}
@@ -7,7 +7,7 @@ use Rattle.scheduler.specs.Sheet.{read_sheet, admitted}
 use Rattle.scheduler.specs.Answers.{call}
 use Rattle.scheduler.specs.Lists.{scheduler, after, turned_down}
 use Rattle.scheduler.specs.Demand.{Demand3, seen}
-use Rattle.journal.specs.Types.{Call, State, JournalVerdict, Journal}
+use Rattle.journal.specs.Types.{Call, State, JournalFault, Journal}
 use Rattle.journal.specs.Journals.{Opens, Appended, journal_of, open_journal, append, buffer_after}
 use Rattle.journal.specs.Calls.{calls}
 
@@ -43,5 +43,5 @@ pub record HoldsCalls (b : List ℕ) (t : State) (end : ℕ) : Type 0 where
 
 -- so does every journal that opens, and one with a bad record up to there (16.9)
 pub record JournalHolds (b : List ℕ) (r : Journal) : Type 0 where
-  pub opened : (end left : ℕ) → r.verdict ≡ JournalVerdict.Opened end left → HoldsCalls b r.state end
-  pub broken : (at : ℕ) → r.verdict ≡ JournalVerdict.Broken at → HoldsCalls b r.state at
+  pub opened : (end left : ℕ) → r.verdict ≡ Ok (record { end = end; left = left }) → HoldsCalls b r.state end
+  pub broken : (at : ℕ) → r.verdict ≡ Err (JournalFault.Broken at) → HoldsCalls b r.state at

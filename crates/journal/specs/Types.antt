@@ -10,17 +10,17 @@ pub use Rattle.plan.specs.declared.answer.SheetFault.TheVariants.{Cut, BadKind, 
 pub use Rattle.plan.specs.declared.answer.CallFault.{CallFault}
 pub use Rattle.plan.specs.declared.answer.CallFault.TheVariants.{Unknown, AlreadyClosed, NotClosed, Incoherent, TooLong, NoRoom, Backward}
 pub use Rattle.plan.specs.declared.answer.Answer.{Answer}
-pub use Rattle.plan.specs.declared.answer.Verdict.{Verdict}
-pub use Rattle.plan.specs.declared.answer.Verdict.TheVariants.{Admitted, Faulty}
+pub use Rattle.plan.specs.declared.answer.Refusal.{Refusal}
 pub use Rattle.scheduler.specs.declared.state.State.{State}
 pub use Rattle.scheduler.specs.declared.reply.Reading.{Reading}
 pub use Rattle.scheduler.specs.declared.reply.Reply.{Reply}
 pub use Rattle.scheduler.specs.declared.reply.Outcome.{Outcome}
-pub use Rattle.journal.specs.declared.record.RecordRead.{RecordRead}
+pub use Rattle.journal.specs.declared.record.NoRecord.{NoRecord}
 pub use Rattle.journal.specs.declared.record.CallRecord.{CallRecord}
-pub use Rattle.journal.specs.declared.record.Asked.{Asked}
-pub use Rattle.journal.specs.declared.record.Asked.TheVariants.{Wanted, Wrong}
-pub use Rattle.journal.specs.declared.open.JournalVerdict.{JournalVerdict}
+pub use Rattle.journal.specs.declared.record.NoCall.{NoCall}
+pub use Rattle.journal.specs.declared.open.Opened.{Opened}
+pub use Rattle.journal.specs.declared.open.JournalFault.{JournalFault}
 pub use Rattle.journal.specs.declared.open.Journal.{Journal}
-pub use Rattle.journal.specs.declared.append.AppendAnswer.{AppendAnswer}
+pub use Rattle.journal.specs.declared.append.Appended.{Appended}
+pub use Rattle.journal.specs.declared.append.AppendFault.{AppendFault}
 pub use Rattle.journal.specs.declared.append.AppendReply.{AppendReply}

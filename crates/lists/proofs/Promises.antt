@@ -6,6 +6,8 @@ use mathlib.Core.Bool.{true, false}
 use mathlib.Core.List.{List}
 use mathlib.Core.Path.{◌≡◌, refl, sym, ◌∙◌, ap, subst}
 use lib.Pow.{are_bytes}
+use Rattle.std.specs.Prelude.{Ok, Err}
+use Rattle.plan.specs.Faults.{Verdict}
 use Rattle.plan.specs.Calls.{Decoded, decode, decode_all}
 use Rattle.plan.proofs.CallRecords.{byte_numbers, decoded}
 use Rattle.plan.proofs.AnyCalls.{all_fit, decoded_all}
@@ -15,80 +17,44 @@ use Rattle.scheduler.specs.Lists.{scheduler, after, turned_down}
 use Rattle.scheduler.specs.Runner.{ran_on, run_on, run_of, replay_of}
 use Rattle.scheduler.specs.Demand.{seen, Demand3}
 use Rattle.theory.proofs.Demands.{demand3, admitted_coherent}
-use Rattle.lists.specs.Types.{Call, SheetFault, Verdict, Admitted, Faulty, State, Reading, Outcome}
+use Rattle.lists.specs.Types.{Call, Refusal, State, Reading, Outcome}
 
 -- the branches of `run_on`
-on_admitted : (r : Reading) (d : Decoded) → r.verdict ≡ Admitted → run_on r d ≡ ran_on r.state d
+on_admitted : (r : Reading) (d : Decoded) → r.verdict ≡ Ok tt → run_on r d ≡ ran_on r.state d
 unfolding run_on
 on_admitted r d h = rw (h, run_on)
 
-on_refused : (r : Reading) (d : Decoded) (f : SheetFault) (at : ℕ)
-    → r.verdict ≡ Faulty f at
+on_refused : (r : Reading) (d : Decoded) (f : Refusal)
+    → r.verdict ≡ Err f
     → run_on r d ≡ record { verdict = r.verdict; state = r.state; refused = 0 }
 unfolding run_on
-on_refused r d f at h = rw (h, run_on)
+on_refused r d f h = rw (h, run_on)
 
 -- a sheet that is admitted, and one that is turned down
 module _ (sheet : List ℕ) (r : Reading) (e : r ≡ read_sheet sheet) (d : Decoded) where
-  ran_on_lem : (o : Outcome) → r.verdict ≡ Admitted → o ≡ ran_on r.state d → o ≡ run_on (read_sheet sheet) d
-  ran_on_lem o h q = q ∙ sym (on_admitted r d h) ∙ ap (λ t. run_on t d) e
+  pub ran : (o : Outcome) → r.verdict ≡ Ok tt → o ≡ ran_on r.state d → o ≡ run_on (read_sheet sheet) d
+  ran o h q = q ∙ sym (on_admitted r d h) ∙ ap (λ t. run_on t d) e
 
-  not_ran_on : (f : SheetFault) (at : ℕ)
-      → r.verdict ≡ Faulty f at
+  pub not_ran : (f : Refusal)
+      → r.verdict ≡ Err f
       → record { verdict = r.verdict; state = r.state; refused = 0 } ≡ run_on (read_sheet sheet) d
-  not_ran_on f at h = sym (on_refused r d f at h) ∙ ap (λ t. run_on t d) e
-
-module _ (sheet calls : List ℕ) (r : Reading) (e : r ≡ read_sheet sheet) where
-  pub ran : (o : Outcome) → r.verdict ≡ Admitted → o ≡ ran_on r.state (decode calls) → o ≡ run_of sheet calls
-  unfolding run_of
-  ran = ran_on_lem sheet r e (decode calls)
-
-  pub not_ran : (f : SheetFault) (at : ℕ)
-      → r.verdict ≡ Faulty f at
-      → record { verdict = r.verdict; state = r.state; refused = 0 } ≡ run_of sheet calls
-  unfolding run_of
-  not_ran = not_ran_on sheet r e (decode calls)
-
-  pub replayed : (o : Outcome) → r.verdict ≡ Admitted → o ≡ ran_on r.state (decode_all calls) → o ≡ replay_of sheet calls
-  unfolding replay_of
-  replayed = ran_on_lem sheet r e (decode_all calls)
-
-  pub not_replayed : (f : SheetFault) (at : ℕ)
-      → r.verdict ≡ Faulty f at
-      → record { verdict = r.verdict; state = r.state; refused = 0 } ≡ replay_of sheet calls
-  unfolding replay_of
-  not_replayed = not_ran_on sheet r e (decode_all calls)
+  not_ran f h = sym (on_refused r d f h) ∙ ap (λ t. run_on t d) e
 
 -- the calls start from a state that passes number 12
-pub starts : (sheet : List ℕ) (r : Reading) → r ≡ read_sheet sheet → r.verdict ≡ Admitted → coherent r.state ≡ true
+pub starts : (sheet : List ℕ) (r : Reading) → r ≡ read_sheet sheet → r.verdict ≡ Ok tt → coherent r.state ≡ true
 starts sheet r e h =
     admitted_coherent sheet r.state
     (sym e ∙ ap {B = Reading} (λ (v : Verdict). record { verdict = v; state = r.state }) h)
 
 -- the run on an admitted sheet, and demand 3 of what it comes to
-module _ (sheet : List ℕ) (s : State) (h : read_sheet sheet ≡ admitted s) (d : Decoded) where
+module _ (sheet : List ℕ) (d : Decoded) (s : State) (h : read_sheet sheet ≡ admitted s) where
   run_state : run_on (read_sheet sheet) d ≡ ran_on s d
   run_state = ap (λ t. run_on t d) h ∙ on_admitted (admitted s) d refl
 
-  demanded_on : (r : Outcome) → r ≡ run_on (read_sheet sheet) d → Demand3 s.plan (seen scheduler s d.calls) r.state
-  demanded_on r e =
+  pub demanded : (r : Outcome) → r ≡ run_on (read_sheet sheet) d → Demand3 s.plan (seen scheduler s d.calls) r.state
+  demanded r e =
       let q : r.state ≡ after scheduler s d.calls = ap (λ (o : Outcome). o.state) (e ∙ run_state) in
       subst (Demand3 s.plan (seen scheduler s d.calls)) (sym q) (demand3 sheet s d.calls h)
-
-module _ (sheet calls : List ℕ) (r : Outcome) where
-  pub demanded : r ≡ run_of sheet calls
-      → (s : State)
-      → read_sheet sheet ≡ admitted s
-      → Demand3 s.plan (seen scheduler s (decode calls).calls) r.state
-  unfolding run_of
-  demanded e s h = demanded_on sheet s h (decode calls) r e
-
-  pub replay_demanded : r ≡ replay_of sheet calls
-      → (s : State)
-      → read_sheet sheet ≡ admitted s
-      → Demand3 s.plan (seen scheduler s (decode_all calls).calls) r.state
-  unfolding replay_of
-  replay_demanded e s h = demanded_on sheet s h (decode_all calls) r e
 
 -- bytes, by their decoding and what they come to, whose run is the run of these calls
 pub record Covered (decoding : List ℕ → Decoded) (outcome : List ℕ → Outcome) (s : State) (cs : List Call) : Type 0 where
@@ -118,8 +84,8 @@ covered_by decoding outcome s cs is t =
 module _ (sheet : List ℕ) (s : State) (cs : List Call) (h : read_sheet sheet ≡ admitted s) where
   pub covered : byte_numbers cs ≡ true → Covered decode (run_of sheet) s cs
   unfolding run_of
-  covered k = covered_by decode (run_of sheet) s cs (λ b. run_state sheet s h (decode b)) (decoded cs k)
+  covered k = covered_by decode (run_of sheet) s cs (λ b. run_state sheet (decode b) s h) (decoded cs k)
 
   pub replay_covered : all_fit cs ≡ true → Covered decode_all (replay_of sheet) s cs
   unfolding replay_of
-  replay_covered k = covered_by decode_all (replay_of sheet) s cs (λ b. run_state sheet s h (decode_all b)) (decoded_all cs k)
+  replay_covered k = covered_by decode_all (replay_of sheet) s cs (λ b. run_state sheet (decode_all b) s h) (decoded_all cs k)

@@ -8,16 +8,17 @@ use borrow.Author.Tests.{le-leb, lt-leb}
 use mathlib.Core.Bool.{Bool, true, false, cond, not, ◌||◌}
 use mathlib.Core.List.{List, [], ◌∷◌}
 use mathlib.Core.Path.{◌≡◌, refl, sym, ◌∙◌, ap}
+use Rattle.std.specs.Prelude.{Ok}
 use lib.ListN.{length, get_or, drop, length-drop}
 use lib.Seq.{drop-cons, drop-drop}
 use Rattle.plan.specs.Base.{one_if}
 use Rattle.plan.specs.Faults.{is_turned_down}
-use Rattle.plan.specs.Calls.{call_size, call_of, first_call, Decoded, and_then, decode}
+use Rattle.plan.specs.Calls.{call_size, call_of, first_call, Decoded, and_then, Finishes}
 use Rattle.plan.specs.Fates.{is_open}
 use Rattle.plan.specs.Plans.{event_count, has_event}
 use Rattle.plan.proofs.Tests.{one_le, or_right_true}
 use Rattle.plan.proofs.CallRecords.{more_left}
-use Rattle.plan.proofs.CallDecoding.{size_some, Decodes, decodes}
+use Rattle.plan.proofs.CallDecoding.{size_some, Decodes}
 use Rattle.scheduler.specs.State.{fate_of, closed_at, Sized}
 use Rattle.scheduler.specs.Coherent.{coherent}
 use Rattle.scheduler.specs.Answers.{turns_down, idle, accept, call}
@@ -26,12 +27,12 @@ use Rattle.scheduler.specs.Runner.{ran_on}
 use Rattle.scheduler.proofs.Branches.{call_fault_lem, call_accept}
 use Rattle.scheduler.proofs.CallSteps.{turned_down_lem, not_turned_down, idle_same, submit_turns, close_turns, submit_idle}
 use Rattle.theory.proofs.Coherence.{call_coherent, sized_call, call_taken, fault_answer}
-use Rattle.lists.specs.Internal.Underway.{outcome_from, Underway, Finishes}
-use Rattle.lists.specs.Types.{Call, Submit, Close, Finish, CallRead, Listed, End, Bad, State, Admitted, Reply, Outcome}
+use Rattle.lists.specs.Internal.Underway.{outcome_from, Underway, IsCodec}
+use Rattle.lists.specs.Types.{Call, Submit, Close, Finish, CallRead, Listed, End, Bad, State, Reply, Outcome}
 
 -- what a list comes to that stops here
 abbrev pub outcome_of : State → ℕ → Outcome
-outcome_of s n = record { verdict = Admitted; state = s; refused = n }
+outcome_of s n = record { verdict = Ok tt; state = s; refused = n }
 
 -- one call more in front of a list
 from_call : (s : State) (n : ℕ) (c : Call) (d : Decoded)
@@ -187,24 +188,26 @@ module _ (b : List ℕ) (at k : ℕ) (kind : k ≡ get_or b at 0) where
       last (x ∷ l) = refl
 
 -- one of the runner's that leaves the state as it is, by what the code reads of it
-module _ {s t : State} {b : List ℕ} {at n : ℕ} (u : Underway decode s b t at n) (m : ℕ) where
+module _
+    {first : List ℕ → CallRead} {decoding : List ℕ → Decoded} (k : IsCodec first decoding)
+    {s t : State} {b : List ℕ} {at n : ℕ} (u : Underway decoding s b t at n) (m : ℕ) where
   -- what the bytes hold here is the call c
   abbrev Here : Call → Type 0
   Here c = first_call (drop at b) ≡ Listed c
 
-  refused_here : (c : Call) → Here c → turns_down t c ≡ true → m ≡ n + 1 → Underway decode s b t (at + call_size c) m
-  refused_here c h down f = again_refused decodes u (first_call (drop at b)) refl c h (call_size c) refl t m down refl f
+  refused_here : (c : Call) → Here c → turns_down t c ≡ true → m ≡ n + 1 → Underway decoding s b t (at + call_size c) m
+  refused_here c h down f = again_refused k.decodes u (first (drop at b)) refl c (k.keeps _ c h) (call_size c) refl t m down refl f
 
   idle_here : (c : Call)
       → Here c
       → turns_down t c ≡ false
       → idle t c ≡ true
       → m ≡ n
-      → Underway decode s b t (at + call_size c) m
+      → Underway decoding s b t (at + call_size c) m
   idle_here c h taken still f =
-      again_idle decodes u (first_call (drop at b)) refl c h (call_size c) refl t m taken still refl f
+      again_idle k.decodes u (first (drop at b)) refl c (k.keeps _ c h) (call_size c) refl t m taken still refl f
 
-  pub skip_unknown : (e : ℕ) → Here (Submit e) → event_count t.plan ≤ e → m ≡ n + 1 → Underway decode s b t (at + 2) m
+  pub skip_unknown : (e : ℕ) → Here (Submit e) → event_count t.plan ≤ e → m ≡ n + 1 → Underway decoding s b t (at + 2) m
   skip_unknown e h ge f = refused_here (Submit e) h (sym (submit_turns t e) ∙ le-leb _ _ ge) f
 
   pub skip_submitted : (e : ℕ) (o : Bool)
@@ -213,14 +216,14 @@ module _ {s t : State} {b : List ℕ} {at n : ℕ} (u : Underway decode s b t at
       → o ≡ is_open (fate_of t e)
       → o ≡ false
       → m ≡ n
-      → Underway decode s b t (at + 2) m
+      → Underway decoding s b t (at + 2) m
   skip_submitted e o h lt opened settled f =
       idle_here (Submit e) h
       (sym (submit_turns t e) ∙ lt-leb _ _ lt)
       (sym (submit_idle t (Submit e) e o refl opened) ∙ ap not settled)
       f
 
-  pub skip_closed : (j : ℕ) → Here (Close j) → closed_at t j ≡ true → m ≡ n + 1 → Underway decode s b t (at + 2) m
+  pub skip_closed : (j : ℕ) → Here (Close j) → closed_at t j ≡ true → m ≡ n + 1 → Underway decoding s b t (at + 2) m
   skip_closed j h shut f =
       refused_here (Close j) h
       (sym (close_turns t j)
@@ -248,25 +251,26 @@ one_before b at past h all i ge lt = elim (ℕ_discrete i at) [
 
 -- finishes that follow one another and leave the state as it is: each is turned down, or each is taken and idle
 module _
+    {first : List ℕ → CallRead} {decoding : List ℕ → Decoded} (codec : IsCodec first decoding)
     {s t : State} {b : List ℕ} (d : Bool)
     (told : turns_down t Finish ≡ d) (still : d ≡ false → idle t Finish ≡ true) where
   pass_finish : (at n : ℕ)
-      → Underway decode s b t at n
+      → Underway decoding s b t at n
       → first_call (drop at b) ≡ Listed Finish
-      → Underway decode s b t (at + 1) (n + one_if d)
+      → Underway decoding s b t (at + 1) (n + one_if d)
   pass_finish at n u h = go d refl
     where
-      go : (x : Bool) → d ≡ x → Underway decode s b t (at + 1) (n + one_if d)
-      go true e = refused_here u (n + one_if d) Finish h (told ∙ e) (ap (λ (y : Bool). n + one_if y) e)
-      go false e = idle_here u (n + one_if d) Finish h (told ∙ e) (still e) (omega (arith, ap one_if e))
+      go : (x : Bool) → d ≡ x → Underway decoding s b t (at + 1) (n + one_if d)
+      go true e = refused_here codec u (n + one_if d) Finish h (told ∙ e) (ap (λ (y : Bool). n + one_if y) e)
+      go false e = idle_here codec u (n + one_if d) Finish h (told ∙ e) (still e) (omega (arith, ap one_if e))
 
   pub pass_finishes : (k at n past m : ℕ)
-      → Underway decode s b t at n
+      → Underway decoding s b t at n
       → Finishes b at past
       → past ≤ length b
       → past ≡ at + k
       → m ≡ n + cond d k 0
-      → Underway decode s b t past m
+      → Underway decoding s b t past m
   pass_finishes zero at n past m u all le e f = rw (at_end at past e, f, none_more d n) u
   pass_finishes (suc k) at n past m u all le e f =
       let here = all at (omega arith) (omega (arith, e)) in

@@ -4,20 +4,19 @@ use native.Mathlib.Decide.{ℕ_discrete}
 use native.Mathlib.Nat.{le_antisymm}
 use native.Mathlib.Omega.{arith}
 use borrow.Author.Tests.{not-true, not-false, lt-ltb, eqb-true, eq-eqb, ne_eqb}
-use mathlib.Core.Bool.{Bool, true, false, not, ◌&&◌, ◌||◌, and-true, and-false}
+use mathlib.Core.Bool.{Bool, true, false, not, ◌&&◌, ◌||◌, and-true}
 use mathlib.Core.Logic.{◌⊎◌, inl, inr, ⊎_elim}
 use mathlib.Core.Path.{◌≡◌, refl, sym, ◌∙◌, ap}
 use lib.Dec.{eqb, ltb}
-use Rattle.plan.specs.declared.rule.Rule.TheVariants.{Order}
 use Rattle.plan.specs.Base.{count_below}
 use Rattle.plan.specs.Fates.{Fates, is_settled}
-use Rattle.plan.specs.Plans.{rule_count, rule_at, delayable}
+use Rattle.plan.specs.Plans.{rule_count, rule_at}
 use Rattle.plan.proofs.Tests.{and_left, and_right, and_both, and_not, or_either, or_right_true, clash, count_more, count_zero}
 use Rattle.orders.specs.Closed.{Events, Stands, Wants, Closed, asks, target, Fit}
 use Rattle.orders.proofs.Closure.{count_within, asks_wants, wants_asks, wants_unsettled, wants_more}
-use Rattle.members.specs.Prelude.{Rule, Plan, Members}
+use Rattle.members.specs.Prelude.{none, some, Rule, Plan, Members}
 use Rattle.members.specs.Sets.{in_set}
-use Rattle.members.specs.Growing.{lacks, Added, stays, fails, grows, Sure, NoFit, Passed, Closes}
+use Rattle.members.specs.Growing.{lacks, Added, Sure, NoFit, Passed, Closes}
 use Rattle.members.proofs.Bits.{in_zero, in_below}
 
 -- n is m with t, which was not in m
@@ -34,16 +33,12 @@ module _ (m n : Events) (t : ℕ) (is : (x : ℕ) → n x ≡ (eqb x t || m x)) 
 
   -- it alone, where m has none
   pub only_one : ((x : ℕ) → m x ≡ false) → (x : ℕ) → n x ≡ true → x ≡ t
-  only_one none x h = elim (in_either x h) [ inl a ↦ a | inr a ↦ absurd (clash a (none x)) ]
+  only_one empty x h = elim (in_either x h) [ inl a ↦ a | inr a ↦ absurd (clash a (empty x)) ]
 
   pub count_one : t < 16 → m t ≡ false → count_below 16 n ≡ suc (count_below 16 m)
   count_one lt out = count_more 16 m n t lt out one_in (λ x ne. sym (is x ∙ rw (ne_eqb x t ne)))
 
 -- what a rule lacks
-itself : (a b c : Bool) → (((a && b) && c) && not a) ≡ false
-itself true b c = and-false (b && c)
-itself false b c = refl
-
 module _ (p : Plan) (f : Fates) where
   module _ (m : Events) (r : Rule) where
     abbrev wanted : Bool
@@ -66,11 +61,6 @@ module _ (p : Plan) (f : Fates) where
     unfolding lacks
     lacks_nothing h w =
         not-false _ (and_not wanted _ h (and_both _ _ (wants_asks p f m r w) (rw (wants_unsettled w))))
-
-  -- the blank rule lacks nothing: it asks for its own b
-  pub lacks_blank : (m : Events) → lacks p f m (Order 0 0) ≡ false
-  unfolding lacks asks
-  lacks_blank m = itself (m 0) (delayable p 0) (not (is_settled (f 0)))
 
   -- a closed set that holds the members has the event that a rule lacks
   pub within_fit : (l : ℕ → Bool) (m n : Events) (r : Rule)
@@ -123,40 +113,31 @@ module _ (p : Plan) (l : ℕ → Bool) (f : Fates) (able e : ℕ) where
         omega (arith, seven, count_within 16 wider k (λ x lt. wider_within k fit h x), fit.few, sure.counted)
 
     -- the members after it, if there are any, and that there are none
-    pub added_sure : Added p f (in_set able) m r n → n.ok ≡ true → Surely n
-    added_sure (stays h same) ok = rw same sure
-    added_sure (fails h why bad) ok = absurd (clash ok bad)
-    added_sure (grows h fine room good count more) ok =
-        let below : target r < 16 = in_below able (target r) fine in
-        let members : count_below 16 new ≡ suc (count_below 16 old) = count_one old new (target r) more below (lacks_out p f old r h) in
+    pub added_sure : Added p f (in_set able) m r (some n) → Surely n
+    added_sure (inl (h, same)) = rw same sure
+    added_sure (inr (h, g)) =
+        let below : target r < 16 = in_below able (target r) g.fine in
+        let members : count_below 16 new ≡ suc (count_below 16 old) = count_one old new (target r) g.has below (lacks_out p f old r h) in
         record {
-          ok = ok;
-          contains = old_in old new (target r) more e sure.contains;
-          ables = λ x g. ⊎_elim (λ a. ap (in_set able) a ∙ fine) (sure.ables x) (in_either old new (target r) more x g);
-          counted = omega (arith, sure.counted);
-          few = omega arith;
-          least = λ k fit x g. wider_within k fit h x (sym (more x) ∙ g);
+          contains = old_in old new (target r) g.has e sure.contains;
+          ables = λ x t. ⊎_elim (λ a. ap (in_set able) a ∙ g.fine) (sure.ables x) (in_either old new (target r) g.has x t);
+          counted = omega (arith, sure.counted, g.counts);
+          few = omega (arith, g.counts, g.room);
+          least = λ k fit x t. wider_within k fit h x (sym (g.has x) ∙ t);
         }
 
-    pub added_nofit : Added p f (in_set able) m r n → n.ok ≡ false → None
-    added_nofit (stays h same) bad k fit = clash (ap (λ (w : Members). w.ok) same ∙ sure.ok) bad
-    added_nofit (fails h (inl unable) none) bad k fit = clash (fit.ables (target r) (needed k fit h)) unable
-    added_nofit (fails h (inr full) none) bad k fit = not_seventh k fit h full
-    added_nofit (grows h fine room good count more) bad k fit = clash good bad
+    pub added_nofit : Added p f (in_set able) m r none → None
+    added_nofit (h, inl unable) k fit = clash (fit.ables (target r) (needed k fit h)) unable
+    added_nofit (h, inr full) k fit = not_seventh k fit h full
 
     -- they are no fewer; and where they are as many, the rule lacked nothing
-    pub added_more : Added p f (in_set able) m r n → n.ok ≡ true → m.count ≤ n.count
-    added_more (stays h same) ok = rw same (omega arith)
-    added_more (fails h why bad) ok = absurd (clash ok bad)
-    added_more (grows h fine room good count more) ok = omega arith
+    pub added_more : Added p f (in_set able) m r (some n) → m.count ≤ n.count
+    added_more (inl (h, same)) = rw same (omega arith)
+    added_more (inr (h, g)) = omega (arith, g.counts)
 
-    pub added_same : Added p f (in_set able) m r n
-        → n.ok ≡ true
-        → n.count ≡ m.count
-        → (n ≡ m) × (lacks p f old r ≡ false)
-    added_same (stays h same) ok q = (same, h)
-    added_same (fails h why bad) ok q = absurd (clash ok bad)
-    added_same (grows h fine room good count more) ok q = absurd (omega arith)
+    pub added_same : Added p f (in_set able) m r (some n) → n.count ≡ m.count → (n ≡ m) × (lacks p f old r ≡ false)
+    added_same (inl (h, same)) q = (same, h)
+    added_same (inr (h, g)) q = absurd (omega (arith, g.counts))
 
   -- a pass over the rules, up to i: members that are sure and no fewer; and where they are as many, no rule so far lacks
   -- anything
@@ -186,64 +167,37 @@ module _ (p : Plan) (l : ℕ → Bool) (f : Fates) (able e : ℕ) where
           ];
         }
 
-    -- a broken rule, and the blank past the places
+    -- a broken rule
     pub pass_broken : l i ≡ false → Passing m n (i + 1)
     pass_broken h = pass_on (λ stands. absurd (clash stands h))
 
-    pub pass_blank : rule_at p i ≡ Order 0 0 → Passing m n (i + 1)
-    pass_blank is = pass_on (λ stands. ap (lacks p f (in_set n.set)) is ∙ lacks_blank p f (in_set n.set))
-
     -- a rule that stands
-    module _
-        (k : Members)
-        (r : Rule)
-        (lt : i < rule_count p)
-        (stands : l i ≡ true)
-        (is : rule_at p i ≡ r)
-        (added : Added p f (in_set able) n r k)
-      where
-        here : Stands p l r
-        here = record { place = i; within = lt; unbroken = stands; is = is }
+    module _ (r : Rule) (here : Stands p l r) (at : rule_at p i ≡ r) where
+      pub pass_next : (k : Members) → Added p f (in_set able) n r (some k) → Passing m k (i + 1)
+      pass_next k added =
+          let up = added_more n k r before.sure here added in
+          let up' = before.more in
+          record {
+            sure = added_sure n k r before.sure here added;
+            more = omega arith;
+            same = λ q j j-lt j-stands.
+                let kept = added_same n k r before.sure here added (omega arith) in
+                ap (λ (w : Members). lacks p f (in_set w.set) (rule_at p j)) kept.0
+                ∙ (pass_on (λ _. ap (lacks p f (in_set n.set)) at ∙ kept.1)).same (omega arith) j j-lt j-stands;
+          }
 
-        as_many : k.ok ≡ true → k.count ≡ m.count → (k.count ≡ n.count) × (n.count ≡ m.count)
-        as_many ok q =
-            let up = added_more n k r before.sure here added ok in
-            let up' = before.more in
-            (omega arith, omega arith)
-
-        pub pass_next : k.ok ≡ true → Passing m k (i + 1)
-        pass_next ok =
-            let up = added_more n k r before.sure here added ok in
-            let up' = before.more in
-            record {
-              sure = added_sure n k r before.sure here added ok;
-              more = omega arith;
-              same = λ q j j-lt j-stands.
-                  let c = as_many ok q in
-                  let kept = added_same n k r before.sure here added ok c.0 in
-                  ap (λ (w : Members). lacks p f (in_set w.set) (rule_at p j)) kept.0
-                  ∙ (pass_on (λ _. ap (lacks p f (in_set n.set)) is ∙ kept.1)).same c.1 j j-lt j-stands;
-            }
-
-        pub pass_fails : k.ok ≡ false → Passed p l f (in_set able) e m k
-        pass_fails bad =
-            record {
-              found = λ ok. absurd (clash ok bad);
-              more = λ ok. absurd (clash ok bad);
-              closed = λ ok q. absurd (clash ok bad);
-              none_fits = λ _. added_nofit n k r before.sure here added bad;
-            }
+      pub pass_fails : Added p f (in_set able) n r none → Passed p l f (in_set able) e m none
+      pass_fails added = added_nofit n n r before.sure here added
 
     -- all rules
-    pub pass_end : rule_count p ≤ i → Passed p l f (in_set able) e m n
+    pub pass_end : rule_count p ≤ i → Passed p l f (in_set able) e m (some n)
     pass_end ge =
         record {
-          found = λ ok. before.sure;
-          more = λ ok. before.more;
-          closed = λ ok q r stands wants.
-              let none = before.same q stands.place (omega (arith, stands.within)) stands.unbroken in
-              lacks_nothing p f (in_set n.set) r (sym (ap (lacks p f (in_set n.set)) stands.is) ∙ none) wants;
-          none_fits = λ bad. absurd (clash before.sure.ok bad);
+          sure = before.sure;
+          more = before.more;
+          closed = λ q r stands wants.
+              let all = before.same q stands.place (omega (arith, stands.within)) stands.unbroken in
+              lacks_nothing p f (in_set n.set) r (sym (ap (lacks p f (in_set n.set)) stands.is) ∙ all) wants;
         }
 
   -- one pass after another: members that are sure, and closed where the last pass found no more
@@ -254,19 +208,17 @@ module _ (p : Plan) (l : ℕ → Bool) (f : Fates) (able e : ℕ) where
 
   -- the event alone
   pub close_start : (m : Members)
-      → m.ok ≡ true
       → m.count ≡ 1
       → ((x : ℕ) → in_set m.set x ≡ ((eqb x e && (ltb e 16 && true)) || in_set 0 x))
       → in_set able e ≡ true
       → Closing m 0
-  close_start m ok one-member is fine =
+  close_start m one-member is fine =
       let below : e < 16 = in_below able e fine in
       let alone : (x : ℕ) → in_set m.set x ≡ (eqb x e || in_set 0 x) = λ x. is x ∙ rw (lt-ltb e 16 below, and-true) in
       let only : (x : ℕ) → in_set m.set x ≡ true → x ≡ e = only_one (in_set 0) (in_set m.set) e alone in_zero in
       let counts = count_one (in_set 0) (in_set m.set) e alone below (in_zero e) in
       record {
         sure = record {
-          ok = ok;
           contains = one_in (in_set 0) (in_set m.set) e alone;
           ables = λ x g. ap (in_set able) (only x g) ∙ fine;
           counted = omega (arith, counts, count_zero 16 (in_set 0) (λ x _. in_zero x));
@@ -278,34 +230,22 @@ module _ (p : Plan) (l : ℕ → Bool) (f : Fates) (able e : ℕ) where
       }
 
   -- a pass more
-  pub close_next : (m n : Members) → Passed p l f (in_set able) e m n → n.ok ≡ true → Closing n m.count
-  close_next m n passed ok =
-      record {
-        sure = passed.found ok;
-        more = passed.more ok;
-        closed = λ q. passed.closed ok (sym q);
-      }
+  pub close_next : (m n : Members) → Passed p l f (in_set able) e m (some n) → Closing n m.count
+  close_next m n passed = record { sure = passed.sure; more = passed.more; closed = λ q. passed.closed (sym q) }
 
   -- the last pass found no more
-  pub close_end : (m : Members) (before : ℕ) → Closing m before → m.count ≤ before → Closes p l f (in_set able) e m
+  pub close_end : (m : Members) (before : ℕ) → Closing m before → m.count ≤ before → Closes p l f (in_set able) e (some m)
   close_end m before c ge =
       record {
-        found = λ ok. record {
-          fit = record {
-            contains = c.sure.contains;
-            closed = c.closed (le_antisymm c.more ge);
-            ables = c.sure.ables;
-            few = omega (arith, c.sure.counted, c.sure.few);
-          };
-          least = c.sure.least;
+        fit = record {
+          contains = c.sure.contains;
+          closed = c.closed (le_antisymm c.more ge);
+          ables = c.sure.ables;
+          few = omega (arith, c.sure.counted, c.sure.few);
         };
-        none_fits = λ bad. absurd (clash c.sure.ok bad);
+        least = c.sure.least;
       }
 
-  -- no set would do: the event is not able, or a pass says so
-  pub close_none : (m : Members) → m.ok ≡ false → None → Closes p l f (in_set able) e m
-  close_none m bad none =
-      record { found = λ ok. absurd (clash ok bad); none_fits = λ _. none }
-
+  -- the event is not able
   pub unable_nofit : in_set able e ≡ false → None
   unable_nofit h k fit = clash (fit.ables e fit.contains) h

@@ -1,16 +1,15 @@
 -- What one rule reckons with, asks for, forbids, owes and blocks, over sets as code reads and makes them.
 use Prim.Native.Nat.{ℕ, ◌<◌}
-use borrow.Author.Tests.{eqb-true, lt-ltb}
-use mathlib.Core.Bool.{Bool, true, false, not, ◌&&◌, ◌||◌, or-false, or_assoc}
-use mathlib.Core.Logic.{inl, inr}
-use mathlib.Core.Path.{◌≡◌, refl, sym, ◌∙◌, ap, ap₂}
+use native.Mathlib.Omega.{arith}
+use mathlib.Core.Bool.{Bool, false, not, ◌&&◌, ◌||◌, not-not, or-false, or_assoc}
+use mathlib.Core.Path.{◌≡◌, sym, ◌∙◌, ap, ap₂}
 use lib.Bits.{bit_or}
 use lib.Dec.{eqb, ltb}
+use Rattle.std.proofs.lemmas.Bool.Decides.{nat_tests}
 use Rattle.plan.specs.declared.rule.Rule.TheVariants.{Order, Need, Conditional}
 use Rattle.plan.specs.Fates.{Fates, is_done, is_gone}
 use Rattle.plan.specs.Plans.{forcible, delayable}
 use Rattle.plan.specs.Rules.{unstoppable, reckoned, triggered, bars, makes_wait, forbids, owes}
-use Rattle.plan.proofs.Tests.{either}
 use Rattle.orders.specs.Closed.{asks}
 use Rattle.orders.specs.Stepwise.{follows}
 use Rattle.members.specs.Prelude.{Rule, Plan, View}
@@ -22,45 +21,18 @@ pub with_at : (m n e x : ℕ) (is : Bool)
     → x < 16
     → in_set n x ≡ ((eqb x e && (ltb e 16 && is)) || in_set m x)
     → in_set n x ≡ ((eqb x e && is) || in_set m x)
-with_at m n e x is lt h = elim (either (eqb x e)) [ inl t ↦ here t | inr t ↦ h ∙ rw t ]
-  where
-    here : eqb x e ≡ true → in_set n x ≡ ((eqb x e && is) || in_set m x)
-    here t =
-        let below : ltb x 16 ≡ true = lt-ltb x 16 lt in
-        h ∙ rw (t, ← eqb-true x e t, below)
+with_at m n e x is lt h = h ∙ grind (arith, nat_tests)
 
 -- the same tests in another order
 order_sorted : (a b s : Bool) → (b || (a || s)) ≡ ((a || b) || s)
-order_sorted true true s = refl
-order_sorted true false s = refl
-order_sorted false true s = refl
-order_sorted false false s = refl
+order_sorted a b s = grind (arith, nat_tests)
 
 need_sorted : (a s : Bool) → (a || s) ≡ ((a || false) || s)
-need_sorted true s = refl
-need_sorted false s = refl
-
-twice_sorted : (a s : Bool) → (a || s) ≡ (((a || false) || false) || s)
-twice_sorted true s = refl
-twice_sorted false s = refl
+need_sorted a s = grind (arith, nat_tests)
 
 both_sorted : (g a b x y s : Bool)
     → ((b && (g && y)) || ((a && (g && x)) || s)) ≡ (((g && ((a && x) || (b && y))) || false) || s)
-both_sorted false true true x y s = refl
-both_sorted false true false x y s = refl
-both_sorted false false true x y s = refl
-both_sorted false false false x y s = refl
-both_sorted true false false x y s = refl
-both_sorted true true false x y s = twice_sorted x s
-both_sorted true false true x y s = need_sorted y s
-both_sorted true true true true true s = refl
-both_sorted true true true true false s = refl
-both_sorted true true true false true s = refl
-both_sorted true true true false false s = refl
-
-twice : (b : Bool) → not (not b) ≡ b
-twice true = refl
-twice false = refl
+both_sorted g a b x y s = grind (arith, nat_tests)
 
 -- a trigger that nothing can stop, for a c that cannot be forced; and one that a conditional reckons with
 abbrev pending : Plan → Fates → ℕ → ℕ → Bool
@@ -72,7 +44,7 @@ module _ (p : Plan) (f : Fates) (v : View) (shows : Shows p f v) (k t : ℕ) whe
       → c ≡ in_set v.forcible k
       → (not s && not c) ≡ pending p f k t
   pending_read s c hs hc =
-      rw (hs, hc, shows.stops t, shows.forces k) (ap (λ (b : Bool). b && not (forcible p k)) (twice (unstoppable p f t)))
+      rw (hs, hc, shows.stops t, shows.forces k) (ap (λ (b : Bool). b && not (forcible p k)) (not-not (unstoppable p f t)))
 
   pub reckoned_read : (d w : Bool) → d ≡ in_set v.done t → w ≡ pending p f k t → (d || w) ≡ reckoned p f k t
   unfolding reckoned
@@ -80,10 +52,7 @@ module _ (p : Plan) (f : Fates) (v : View) (shows : Shows p f v) (k t : ℕ) whe
 
 -- two triggers, each sure or pending
 spread : (a b x y : Bool) → (((a && b) || (a && x)) || (b && y)) ≡ ((a && (b || x)) || (b && (a || y)))
-spread true true x y = refl
-spread true false x y = refl
-spread false true x y = refl
-spread false false x y = refl
+spread a b x y = grind (arith, nat_tests)
 
 module _ (p : Plan) (f : Fates) (v : View) (shows : Shows p f v) (r : Rule) (a b : ℕ) where
   -- what a rule asks for

@@ -1,11 +1,13 @@
 -- Events at hand that a single rule shows to be hopeless: one rule, and one pass over the rules.
 use Prim.Native.Nat.{ℕ}
-use borrow.Author.Tests.{not-false, eqb-true, ltb-false, not-true}
-use mathlib.Core.Bool.{Bool, true, false, not, ◌&&◌, ◌||◌, and-true, or-false}
+use native.Mathlib.Omega.{arith}
+use borrow.Author.Tests.{not-false, eqb-true, not-true}
+use mathlib.Core.Bool.{Bool, true, false, not, ◌&&◌, ◌||◌, and-true}
 use mathlib.Core.Logic.{inl, inr}
 use mathlib.Core.Path.{◌≡◌, refl, sym, ◌∙◌, ap, subst}
 use lib.Bits.{bit_or}
 use lib.Dec.{eqb, ltb}
+use Rattle.std.proofs.lemmas.Bool.Decides.{nat_tests}
 use Rattle.plan.specs.Fates.{Fates, is_done, is_gone, is_settled}
 use Rattle.plan.specs.Plans.{delayable}
 use Rattle.plan.proofs.Tests.{and_left, and_right, and_not, clash, either}
@@ -21,20 +23,8 @@ use Rattle.members.proofs.Targets.{one_or_other, had_read}
 module _ (able one after b : ℕ) (q : Bool)
     (is_one : (y : ℕ) → in_set one y ≡ ((eqb y b && (ltb b 16 && q)) || in_set 0 y))
     (is-after : (y : ℕ) → in_set after y ≡ (in_set able y && not (in_set one y))) where
-  left_out : (x : ℕ) → in_set after x ≡ (in_set able x && not ((eqb x b && (ltb b 16 && q)) || false))
-  left_out x = is-after x ∙ ap (λ (t : Bool). in_set able x && not t) (is_one x ∙ ap (λ (t : Bool). (eqb x b && (ltb b 16 && q)) || t) (in_zero x))
-
-  past : (x : ℕ) → ltb b 16 ≡ false → (e : Bool) → eqb x b ≡ e → (in_set able x && not ((e && (false && q)) || false)) ≡ (in_set able x && not (e && q))
-  past x far true is =
-      let out : in_set able x ≡ false = subst (λ (y : ℕ). in_set able y ≡ false) (sym (eqb-true x b is)) (in_past able b (ltb-false b 16 far)) in
-      rw out
-  past x far false is = refl
-
   pub drop_one : (x : ℕ) → in_set after x ≡ (in_set able x && not (eqb x b && q))
-  drop_one x = left_out x ∙ elim (either (ltb b 16)) [
-    | inl low ↦ rw low (ap (λ (t : Bool). in_set able x && not t) (or-false (eqb x b && q)))
-    | inr far ↦ rw far (past x far (eqb x b) refl)
-  ]
+  drop_one x = is-after x ∙ rw (is_one x, in_zero x) (grind (arith, nat_tests, in_past able b))
 
 -- what one rule leaves of the events, over what code reads
 module _ (p : Plan) (f : Fates) (v : View) (shows : Shows p f v) (able : ℕ) where

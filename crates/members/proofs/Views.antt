@@ -1,8 +1,9 @@
 -- The sets of a view: the loop over the sixteen events that reads fates and attributes, and what the view shows.
 use Prim.Native.Nat.{ℕ, ◌+◌, ◌≤◌, ◌<◌, zero-le}
+use native.Mathlib.Decide.{ℕ_discrete}
 use native.Mathlib.Nat.{le_antisymm}
 use native.Mathlib.Omega.{arith}
-use borrow.Author.Tests.{ltb-true, ltb-false, lt-ltb, le-ltb, eqb-true, eqb-false}
+use borrow.Author.Tests.{ltb-false, lt-ltb, le-ltb}
 use mathlib.Core.Bool.{Bool, true, false, not, ◌&&◌, ◌||◌, cond, and-false, and_comm}
 use mathlib.Core.List.{List}
 use mathlib.Core.Logic.{inl, inr}
@@ -10,6 +11,7 @@ use mathlib.Core.Path.{◌≡◌, refl, sym, ◌∙◌, ap, ap₂}
 use lib.Bits.{bit_or}
 use lib.Dec.{eqb, ltb}
 use lib.ListN.{get_or}
+use Rattle.std.proofs.lemmas.Bool.Decides.{nat_tests}
 use Rattle.plan.specs.declared.fate.Fate.TheVariants.{Open, Held, Done, Refused, Lapsed, Forced}
 use Rattle.plan.specs.Fates.{fates_of, blank_standing, is_open, is_held, is_done, is_gone}
 use Rattle.plan.specs.Plans.{event_count, blank_event, holds_bit}
@@ -37,30 +39,11 @@ module _ (t : ℕ → Bool) where
         (here : b ≡ t e)
         (more : (x : ℕ) → in_set n x ≡ ((eqb x e && (ltb e 16 && b)) || in_set m x))
       where
-        next_here : (x : ℕ) → eqb x e ≡ true → in_set n x ≡ (ltb x (e + 1) && t x)
-        next_here x same =
-            let is : x ≡ e = eqb-true x e same in
-            let none : ltb x e ≡ false = le-ltb x e (omega arith) in
-            let in-next : ltb x (e + 1) ≡ true = lt-ltb x (e + 1) (omega arith) in
-            let at : t e ≡ t x = ap t (sym is) in
-            more x ∙ rw (same, lt-ltb e 16 lt, before x, none, in-next, here, at) (go (t x))
-          where
-            go : (b : Bool) → (b || false) ≡ b
-            go true = refl
-            go false = refl
-
-        next_other : (x : ℕ) → eqb x e ≡ false → in_set n x ≡ (ltb x (e + 1) && t x)
-        next_other x other = more x ∙ rw (other, before x) (ap (λ b. b && t x) (go (ltb x e) refl))
-          where
-            go : (b : Bool) → ltb x e ≡ b → ltb x e ≡ ltb x (e + 1)
-            go true h = h ∙ sym (lt-ltb x (e + 1) (omega (arith, ltb-true x e h)))
-            go false h = h ∙ sym (le-ltb x (e + 1) (above (ltb-false x e h) (eqb-false x e other)))
-              where
-                above : e ≤ x → (x ≡ e → ⊥) → e + 1 ≤ x
-                above le ne = omega arith
-
         pub upto_next : Upto t n (e + 1)
-        upto_next x = elim (either (eqb x e)) [ inl h ↦ next_here x h | inr h ↦ next_other x h ]
+        upto_next x = elim (ℕ_discrete x e) [
+          | yes is ↦ more x ∙ rw (before x, here, is) (grind (arith, nat_tests))
+          | no ne ↦ more x ∙ rw (before x) (grind (arith, nat_tests))
+        ]
 
     -- all sixteen
     pub upto_all : 16 ≤ e → e ≤ 16 → (x : ℕ) → in_set m x ≡ (ltb x 16 && t x)
@@ -180,10 +163,7 @@ not_else Lapsed = refl
 not_else Forced = refl
 
 stopped : (o r w : Bool) → ((not o || r) || w) ≡ not ((o && not r) && not w)
-stopped true true w = refl
-stopped true false true = refl
-stopped true false false = refl
-stopped false r w = refl
+stopped o r w = grind (arith, nat_tests)
 
 -- the view from what fates and attributes say: what each set is, in a place and past the places
 module _ (events : List Event) (count : ℕ) (standings : List Standing) (v : Facts) (tells : Tells events standings v) where

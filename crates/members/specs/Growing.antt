@@ -1,6 +1,6 @@
--- How the least closed set is found: members that lie in every closed set that would do, and more until they are closed.
+-- How the least closed set is found: members that lie in every closed set that would do, more until they are closed.
 use Rattle.std.specs.Prelude.{◌+◌, ◌≤◌, ◌<◌, ◌&&◌, ◌||◌, ◌⊎◌, ◌≡◌}
-use Rattle.members.specs.Prelude.{ℕ, Bool, true, false, not, eqb, Rule, Plan, Members}
+use Rattle.members.specs.Prelude.{ℕ, Bool, true, false, not, Option, none, some, eqb, Rule, Plan, Members}
 use Rattle.plan.specs.Base.{count_below}
 use Rattle.plan.specs.Fates.{Fates, is_settled}
 use Rattle.orders.specs.Closed.{Events, Closed, Fit, Least, asks, target}
@@ -10,25 +10,23 @@ use Rattle.members.specs.Sets.{in_set}
 unfoldable pub lacks : Plan → Fates → Events → Rule → Bool
 lacks p f m r = asks p f m r && not (is_settled (f (target r))) && not (m (target r))
 
+-- the members with one event more
+pub record Grows (able : Events) (m : Members) (t : ℕ) (n : Members) : Type 0 where
+  pub fine : able t ≡ true
+  pub room : m.count < 6
+  pub counts : n.count ≡ m.count + 1
+  pub has : (x : ℕ) → in_set n.set x ≡ (eqb x t || in_set m.set x)
+
 -- the members after a rule: they stay where it asks for nothing new; there are none where the event is not able, or
 -- would be the seventh; else it is one more
-pub data Added (p : Plan) (f : Fates) (able : Events) (m : Members) (r : Rule) (n : Members) : Type 0 where
-  stays : lacks p f (in_set m.set) r ≡ false → n ≡ m → Added p f able m r n
-  fails : lacks p f (in_set m.set) r ≡ true
-      → (able (target r) ≡ false) ⊎ (6 ≤ m.count)
-      → n.ok ≡ false
-      → Added p f able m r n
-  grows : lacks p f (in_set m.set) r ≡ true
-      → able (target r) ≡ true
-      → m.count < 6
-      → n.ok ≡ true
-      → n.count ≡ m.count + 1
-      → ((x : ℕ) → in_set n.set x ≡ (eqb x (target r) || in_set m.set x))
-      → Added p f able m r n
+abbrev pub Added : Plan → Fates → Events → Members → Rule → Option Members → Type 0
+Added p f able m r none = (lacks p f (in_set m.set) r ≡ true) × ((able (target r) ≡ false) ⊎ (6 ≤ m.count))
+Added p f able m r (some n) =
+    ((lacks p f (in_set m.set) r ≡ false) × (n ≡ m))
+    ⊎ ((lacks p f (in_set m.set) r ≡ true) × Grows able m (target r) n)
 
 -- the members are able, at most six, counted, with e among them, and lie in every set that would do
 pub record Sure (p : Plan) (l : ℕ → Bool) (f : Fates) (able : Events) (e : ℕ) (m : Members) : Type 0 where
-  pub ok : m.ok ≡ true
   pub contains : in_set m.set e ≡ true
   pub ables : (x : ℕ) → in_set m.set x ≡ true → able x ≡ true
   pub counted : m.count ≡ count_below 16 (in_set m.set)
@@ -40,13 +38,17 @@ abbrev pub NoFit : Plan → (ℕ → Bool) → Fates → Events → ℕ → Type
 NoFit p l f able e = (n : Events) → Fit p l f able e n → ⊥
 
 -- the members after all rules: no fewer, and closed if they are as many as before
-pub record Passed (p : Plan) (l : ℕ → Bool) (f : Fates) (able : Events) (e : ℕ) (m n : Members) : Type 0 where
-  pub found : n.ok ≡ true → Sure p l f able e n
-  pub more : n.ok ≡ true → m.count ≤ n.count
-  pub closed : n.ok ≡ true → n.count ≡ m.count → Closed p l f (in_set n.set)
-  pub none_fits : n.ok ≡ false → NoFit p l f able e
+pub record Further (p : Plan) (l : ℕ → Bool) (f : Fates) (able : Events) (e : ℕ) (m n : Members) : Type 0 where
+  pub sure : Sure p l f able e n
+  pub more : m.count ≤ n.count
+  pub closed : n.count ≡ m.count → Closed p l f (in_set n.set)
+
+-- the same, or that no set would do
+abbrev pub Passed : Plan → (ℕ → Bool) → Fates → Events → ℕ → Members → Option Members → Type 0
+Passed p l f able e m none = NoFit p l f able e
+Passed p l f able e m (some n) = Further p l f able e m n
 
 -- the least closed set, or that none would do
-pub record Closes (p : Plan) (l : ℕ → Bool) (f : Fates) (able : Events) (e : ℕ) (m : Members) : Type 0 where
-  pub found : m.ok ≡ true → Least p l f able e (in_set m.set)
-  pub none_fits : m.ok ≡ false → NoFit p l f able e
+abbrev pub Closes : Plan → (ℕ → Bool) → Fates → Events → ℕ → Option Members → Type 0
+Closes p l f able e none = NoFit p l f able e
+Closes p l f able e (some m) = Least p l f able e (in_set m.set)

@@ -1,20 +1,16 @@
 -- Sets of the sixteen events as the bits of a number.
-use Rattle.std.specs.Prelude.{◌/◌, ◌^◌, ◌&&◌, ◌≡◌}
-use Rattle.members.specs.Prelude.{ℕ, Bool, false, not, List, Option, none, some, bit_and, eqb, ltb, Standing, Event, Plan, View, Facts}
+use Rattle.std.specs.Prelude.{◌&&◌, ◌≡◌}
+use Rattle.std.specs.Int.{bit_at}
+use Rattle.members.specs.Prelude.{ℕ, Bool, false, not, List, eqb, ltb, Standing, Event, Plan, View, Facts, Ground}
 use Rattle.plan.specs.Base.{read_at}
 use Rattle.plan.specs.Fates.{Fates, fates_of, is_open, is_held, is_done, is_gone}
-use Rattle.plan.specs.Plans.{blank_event, holds_bit, event_count, forcible, delayable}
+use Rattle.plan.specs.Plans.{blank_event, holds_bit, event_count, rule_count, forcible, delayable}
 use Rattle.plan.specs.Rules.{unstoppable, ready}
 use Rattle.orders.specs.Closed.{Events}
 
 -- the bit of an event
 unfoldable pub in_set : ℕ → Events
-in_set m e = ltb e 16 && eqb (bit_and (m / 2 ^ e) 1) 1
-
--- an event number, and 16 for none
-abbrev pub or_sixteen : Option ℕ → ℕ
-or_sixteen none = 16
-or_sixteen (some e) = e
+in_set m e = ltb e 16 && eqb (bit_at m e) 1
 
 -- the rules that an array of marks does not record as broken
 abbrev pub unbroken : List Bool → ℕ → Bool
@@ -29,6 +25,13 @@ pub record Shows (p : Plan) (f : Fates) (v : View) : Type 0 where
   pub waits : (x : ℕ) → in_set v.waits x ≡ delayable p x
   pub forces : (x : ℕ) → in_set v.forcible x ≡ forcible p x
   pub stops : (x : ℕ) → in_set v.stoppable x ≡ not (unstoppable p f x)
+
+-- a ground is what a search reads of a plan, the marks of its broken rules and the fates of its events
+pub record IsGround (p : Plan) (marks : List Bool) (f : Fates) (g : Ground) : Type 0 where
+  pub rules : p.rules ≡ g.rules
+  pub broken : marks ≡ g.broken
+  pub counts : rule_count p ≡ g.count
+  pub shows : Shows p f g.view
 
 -- the attributes in a place of an array of events
 abbrev pub bits_in : List Event → ℕ → ℕ

@@ -1,33 +1,29 @@
 // The events at hand that no single rule shows to be hopeless.
-ghost use Rattle.std.specs.Prelude.{not, ◌&&◌, ◌≡◌, ℕ};
+ghost use Rattle.std.specs.Prelude.{not, ◌&&◌, ◌≡◌, List, Bool, ℕ};
 ghost use Rattle.plan.specs.Fates.{Fates};
-ghost use Rattle.plan.specs.Plans.{rule_count};
 ghost use Rattle.members.specs.Prelude.{Plan};
-ghost use Rattle.members.specs.Sets.{in_set, unbroken, Shows};
+ghost use Rattle.members.specs.Sets.{in_set, unbroken, Shows, IsGround};
 ghost use Rattle.members.specs.Lacking.{lacking, Spared};
 
+use super::ground::Ground;
 use super::set::{is_in, with_if, without};
 use super::view::View;
-use plan::rule::{Rule, RuleLine};
+use plan::rule::Rule;
 
-// The events at hand, less those for which a rule asks for an event that is not at hand: one pass over the rules. The
-// last rule comes first, so that one pass drops a chain of needs as it is mostly written down.
-pub fn spare(rules: [RuleLine; 16], broken: [bool; 16], count: u8, view: View, hand: u16) -> u16
-    ensures { (p : Plan) (f : Fates) → p.rules ≡ rules → rule_count p ≡ count → Shows p f view → Spared p (unbroken broken) f (in_set hand) (in_set result) }
-{
-    let mut able = hand;
-    let mut i: u8 = count;
-    while 0 < i {
-        i -= 1;
-        if i < 16 {
-            if !broken[i as usize] {
-                let line = rules[i as usize];
-                let rule = line.rule;
-                able = drop_lacking(able, rule, view);
+impl Ground {
+    // The events at hand, less those for which a rule asks for an event that is not at hand: one pass over the rules.
+    // The last rule comes first, so that one pass drops a chain of needs as it is mostly written down.
+    pub fn spare(&self, hand: u16) -> u16
+        ensures { (p : Plan) (marks : List Bool) (f : Fates) → IsGround p marks f self.now → Spared p (unbroken marks) f (in_set hand) (in_set result) }
+    {
+        let mut able = hand;
+        for i in (0..self.count).rev() {
+            if let Some(rule) = self.standing(i) {
+                able = drop_lacking(able, rule, self.view);
             }
         }
+        able
     }
-    able
 }
 
 // The events, less the one for which the rule asks for an event that is neither among them nor settled.
@@ -38,6 +34,6 @@ fn drop_lacking(able: u16, rule: Rule, view: View) -> u16
     match rule {
         Rule::Order(a, b) => without(able, with_if(0, b, is_in(view.waits, b) & !is_in(here, a))),
         Rule::Need(a, b) => without(able, with_if(0, a, !is_in(here, b))),
-        Rule::Conditional(a, b, c) => able,
+        Rule::Conditional(_, _, _) => able,
     }
 }

@@ -4,6 +4,7 @@
 
 pub mod blocked;
 pub mod closed;
+pub mod ground;
 pub mod lacking;
 pub mod rule;
 pub mod set;

@@ -10,52 +10,54 @@ use super::set::is_in;
 use super::view::View;
 use plan::rule::Rule;
 
-// Does the rule forbid doing the event, for good or for now (6.2 to 6.6, 6.11)?
-pub fn does_forbid(rule: Rule, view: View, event: u8) -> bool
-    ensures { (p : Plan) (f : Fates) → Shows p f view → result ≡ forbids p f rule event }
-{
-    match rule {
-        Rule::Order(a, b) => {
-            ((event == a) & is_in(view.done, b))
-                | ((event == b)
-                    & is_in(view.waits, b)
-                    & !(is_in(view.done, a) | is_in(view.gone, a)))
-        }
-        Rule::Need(a, b) => (event == a) & is_in(view.gone, b),
-        Rule::Conditional(a, b, c) => {
-            is_in(view.gone, c)
-                & (((event == a) & is_reckoned(view, c, b))
-                    | ((event == b) & is_reckoned(view, c, a)))
-        }
-    }
-}
-
-// Does the rule owe (6.3, 6.7, 6.10)?
-pub fn does_owe(rule: Rule, view: View) -> bool
-    ensures { (p : Plan) (f : Fates) → Shows p f view → result ≡ owes p f rule }
-{
-    match rule {
-        Rule::Order(a, b) => false,
-        Rule::Need(a, b) => is_in(view.done, a) & !(is_in(view.done, b) | is_in(view.gone, b)),
-        Rule::Conditional(a, b, c) => {
-            ((is_in(view.done, a) & is_reckoned(view, c, b))
-                | (is_in(view.done, b) & is_reckoned(view, c, a)))
-                & !(is_in(view.done, c) | is_in(view.gone, c))
+impl View {
+    // Does the rule forbid doing the event, for good or for now (6.2 to 6.6, 6.11)?
+    pub fn does_forbid(self, rule: Rule, event: u8) -> bool
+        ensures { (p : Plan) (f : Fates) → Shows p f self → result ≡ forbids p f rule event }
+    {
+        match rule {
+            Rule::Order(a, b) => {
+                ((event == a) & is_in(self.done, b))
+                    | ((event == b)
+                        & is_in(self.waits, b)
+                        & !(is_in(self.done, a) | is_in(self.gone, a)))
+            }
+            Rule::Need(a, b) => (event == a) & is_in(self.gone, b),
+            Rule::Conditional(a, b, c) => {
+                is_in(self.gone, c)
+                    & (((event == a) & self.is_reckoned(c, b))
+                        | ((event == b) & self.is_reckoned(c, a)))
+            }
         }
     }
-}
 
-// Does the trigger count as done for a conditional with this c: is it done, or is it open and unstoppable and c not
-// forcible (6.9)?
-pub fn is_reckoned(view: View, c: u8, trigger: u8) -> bool
-    ensures { (p : Plan) (f : Fates) → Shows p f view → result ≡ reckoned p f c trigger }
-{
-    is_in(view.done, trigger) | is_pending(view, c, trigger)
-}
+    // Does the rule owe (6.3, 6.7, 6.10)?
+    pub fn does_owe(self, rule: Rule) -> bool
+        ensures { (p : Plan) (f : Fates) → Shows p f self → result ≡ owes p f rule }
+    {
+        match rule {
+            Rule::Order(_, _) => false,
+            Rule::Need(a, b) => is_in(self.done, a) & !(is_in(self.done, b) | is_in(self.gone, b)),
+            Rule::Conditional(a, b, c) => {
+                ((is_in(self.done, a) & self.is_reckoned(c, b))
+                    | (is_in(self.done, b) & self.is_reckoned(c, a)))
+                    & !(is_in(self.done, c) | is_in(self.gone, c))
+            }
+        }
+    }
 
-// Is the trigger open and unstoppable, and c not forcible?
-pub fn is_pending(view: View, c: u8, trigger: u8) -> bool
-    ensures { (p : Plan) (f : Fates) → Shows p f view → result ≡ (unstoppable p f trigger && not (forcible p c)) }
-{
-    !is_in(view.stoppable, trigger) & !is_in(view.forcible, c)
+    // Does the trigger count as done for a conditional with this c: is it done, or is it open and unstoppable and c not
+    // forcible (6.9)?
+    pub fn is_reckoned(self, c: u8, trigger: u8) -> bool
+        ensures { (p : Plan) (f : Fates) → Shows p f self → result ≡ reckoned p f c trigger }
+    {
+        is_in(self.done, trigger) | self.is_pending(c, trigger)
+    }
+
+    // Is the trigger open and unstoppable, and c not forcible?
+    pub fn is_pending(self, c: u8, trigger: u8) -> bool
+        ensures { (p : Plan) (f : Fates) → Shows p f self → result ≡ (unstoppable p f trigger && not (forcible p c)) }
+    {
+        !is_in(self.stoppable, trigger) & !is_in(self.forcible, c)
+    }
 }

@@ -1,17 +1,13 @@
 // Sets of the sixteen events: a bit for each.
 ghost use Rattle.std.specs.Prelude.{◌≡◌, not, ◌&&◌, ◌||◌, ℕ, eqb, ltb};
 ghost use Rattle.plan.specs.Base.{lowest};
-ghost use Rattle.members.specs.Sets.{in_set, or_sixteen};
+ghost use Rattle.members.specs.Sets.{in_set};
 
 // Is the event in the set?
 pub fn is_in(set: u16, event: u8) -> bool
     ensures { result ≡ in_set set event }
 {
-    if event < 16 {
-        (set >> (event as u16)) & 1 == 1
-    } else {
-        false
-    }
+    event < 16 && (set >> event) & 1 == 1
 }
 
 // The set with one event more, if `is` is true; an event past the 16 places is not added.
@@ -19,7 +15,7 @@ pub fn with_if(set: u16, event: u8, is: bool) -> u16
     ensures { (x : ℕ) → in_set result x ≡ ((eqb x event && (ltb event 16 && is)) || in_set set x) }
 {
     if is & (event < 16) {
-        set | (1u16 << (event as u16))
+        set | (1 << event)
     } else {
         set
     }
@@ -30,9 +26,9 @@ pub fn first_of(count: u8) -> u16
     ensures { (x : ℕ) → in_set result x ≡ (ltb x 16 && ltb x count) }
 {
     if count < 16 {
-        (1u16 << (count as u16)) - 1
+        (1 << count) - 1
     } else {
-        65535
+        u16::MAX
     }
 }
 
@@ -47,12 +43,16 @@ pub fn common(set: u16, other: u16) -> u16
 pub fn without(set: u16, other: u16) -> u16
     ensures { (x : ℕ) → in_set result x ≡ (in_set set x && not (in_set other x)) }
 {
-    set ^ (set & other)
+    set & !other
 }
 
-// The lowest event of the set, the number of zeros below the lowest bit; 16 if there is none.
-pub fn lowest_of(set: u16) -> u8
-    ensures { result ≡ or_sixteen (lowest 16 (in_set set)) }
+// The lowest event of the set: the number of zeros below its lowest bit.
+pub fn lowest_of(set: u16) -> Option<u8>
+    ensures { result ≡ lowest 16 (in_set set) }
 {
-    u16::trailing_zeros(set) as u8
+    if set == 0 {
+        None
+    } else {
+        Some(set.trailing_zeros() as u8)
+    }
 }

@@ -13,38 +13,35 @@ pub struct Times {
     pub late: u16,
 }
 
-// One pass over the windows. If there are none, all sixteen events are in time, and none is late.
-pub fn times_of(windows: [Window; 16], minute: u32) -> Times
-    ensures { Clocks windows minute result }
-{
-    if !has_window(windows) {
-        return Times {
-            timely: 65535,
-            late: 0,
-        };
+impl Times {
+    // One pass over the windows. If there are none, all sixteen events are in time, and none is late.
+    pub fn of(windows: [Window; 16], minute: u32) -> Times
+        ensures { Clocks windows minute result }
+    {
+        if !has_window(windows) {
+            return Times {
+                timely: u16::MAX,
+                late: 0,
+            };
+        }
+        let mut timely = 0;
+        let mut late = 0;
+        for e in 0..16u8 {
+            let window = windows[e as usize];
+            timely = with_if(timely, e, is_allowed(window, minute));
+            late = with_if(late, e, is_over(window, minute));
+        }
+        Times { timely, late }
     }
-    let mut timely: u16 = 0;
-    let mut late: u16 = 0;
-    let mut e: u8 = 0;
-    while e < 16 {
-        let window = windows[e as usize];
-        timely = with_if(timely, e, is_allowed(window, minute));
-        late = with_if(late, e, is_over(window, minute));
-        e += 1;
-    }
-    Times { timely, late }
 }
 
 // Is there a window at all? It looks at every place without a branch: the compiler joins them and tests once.
 fn has_window(windows: [Window; 16]) -> bool
     ensures { result ≡ any_window windows }
 {
-    let mut any: bool = false;
-    let mut e: u8 = 0;
-    while e < 16 {
-        let window = windows[e as usize];
-        any = any | (window.until != 0);
-        e += 1;
+    let mut any = false;
+    for window in &windows {
+        any |= window.until != 0;
     }
     any
 }

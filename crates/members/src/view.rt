@@ -26,26 +26,38 @@ pub struct View {
     pub forcible: u16,
 }
 
-// The view of a plan's events and their fates. Past the count nothing is held or at hand. The set of all sixteen places
-// is 65535.
-pub fn view_of(events: [Event; 16], count: u8, standings: [Standing; 16]) -> View
-    ensures { (p : Plan) → p.events ≡ events → event_count p ≡ count → Shows p (fates_of standings) result }
-{
-    let facts = facts_of(events, standings);
-    let held = facts.held;
-    let comes = facts.comes;
-    let gone = facts.gone;
-    let waits = facts.waits;
-    let forcible = facts.forcible;
-    let declared = first_of(count);
-    View {
-        held: common(held, declared),
-        able: common(held | common(comes, forcible), declared),
-        done: without(65535, held | comes | gone),
-        gone,
-        waits,
-        stoppable: without(65535, comes) | facts.refusable | waits,
-        forcible,
+impl View {
+    // The view of a plan's events and their fates. Past the count nothing is held or at hand. The set of all sixteen
+    // places is `u16::MAX`.
+    pub fn of(events: [Event; 16], count: u8, standings: [Standing; 16]) -> View
+        ensures { (p : Plan) → p.events ≡ events → event_count p ≡ count → Shows p (fates_of standings) result }
+    {
+        let facts = facts_of(events, standings);
+        let declared = first_of(count);
+        View {
+            held: common(facts.held, declared),
+            able: common(facts.held | common(facts.comes, facts.forcible), declared),
+            done: without(u16::MAX, facts.held | facts.comes | facts.gone),
+            gone: facts.gone,
+            waits: facts.waits,
+            stoppable: without(u16::MAX, facts.comes) | facts.refusable | facts.waits,
+            forcible: facts.forcible,
+        }
+    }
+
+    // The view after the event is done.
+    pub fn after(self, event: u8) -> View
+        ensures { (p : Plan) (f : Fates) → event < 16 → Shows p f self → Shows p (doing f event) result }
+    {
+        let one = with_if(0, event, true);
+        View {
+            held: without(self.held, one),
+            able: without(self.able, one),
+            done: with_if(self.done, event, true),
+            gone: without(self.gone, one),
+            stoppable: with_if(self.stoppable, event, true),
+            ..self
+        }
     }
 }
 
@@ -53,60 +65,36 @@ pub fn view_of(events: [Event; 16], count: u8, standings: [Standing; 16]) -> Vie
 // the forcible and the rejectable ones.
 #[derive(Clone, Copy)]
 struct Facts {
-    pub held: u16,
-    pub comes: u16,
-    pub gone: u16,
-    pub waits: u16,
-    pub forcible: u16,
-    pub refusable: u16,
+    held: u16,
+    comes: u16,
+    gone: u16,
+    waits: u16,
+    forcible: u16,
+    refusable: u16,
 }
 
-// One pass over the events.
+// One pass over the events. An event is read whole: then the compiler reads all sixteen at once, which takes half the
+// instructions of `events[e as usize].attributes`.
 fn facts_of(events: [Event; 16], standings: [Standing; 16]) -> Facts
     ensures { Tells events standings result }
 {
-    let mut held: u16 = 0;
-    let mut comes: u16 = 0;
-    let mut gone: u16 = 0;
-    let mut waits: u16 = 0;
-    let mut forcible: u16 = 0;
-    let mut refusable: u16 = 0;
-    let mut e: u8 = 0;
-    while e < 16 {
-        let standing = standings[e as usize];
-        let fate = standing.fate;
+    let mut facts = Facts {
+        held: 0,
+        comes: 0,
+        gone: 0,
+        waits: 0,
+        forcible: 0,
+        refusable: 0,
+    };
+    for e in 0..16u8 {
+        let fate = standings[e as usize].fate;
         let event = events[e as usize];
-        let attributes = event.attributes;
-        held = with_if(held, e, is_held(fate));
-        comes = with_if(comes, e, is_open(fate));
-        gone = with_if(gone, e, is_gone(fate));
-        waits = with_if(waits, e, is_delayable(attributes));
-        forcible = with_if(forcible, e, is_forcible(attributes));
-        refusable = with_if(refusable, e, is_rejectable(attributes));
-        e += 1;
+        facts.held = with_if(facts.held, e, is_held(fate));
+        facts.comes = with_if(facts.comes, e, is_open(fate));
+        facts.gone = with_if(facts.gone, e, is_gone(fate));
+        facts.waits = with_if(facts.waits, e, is_delayable(event.attributes));
+        facts.forcible = with_if(facts.forcible, e, is_forcible(event.attributes));
+        facts.refusable = with_if(facts.refusable, e, is_rejectable(event.attributes));
     }
-    Facts {
-        held,
-        comes,
-        gone,
-        waits,
-        forcible,
-        refusable,
-    }
-}
-
-// The view after the event is done.
-pub fn view_after(view: View, event: u8) -> View
-    ensures { (p : Plan) (f : Fates) → event < 16 → Shows p f view → Shows p (doing f event) result }
-{
-    let one = with_if(0, event, true);
-    View {
-        held: without(view.held, one),
-        able: without(view.able, one),
-        done: with_if(view.done, event, true),
-        gone: without(view.gone, one),
-        waits: view.waits,
-        stoppable: with_if(view.stoppable, event, true),
-        forcible: view.forcible,
-    }
+    facts
 }

@@ -1,4 +1,5 @@
 -- The tests of rules, and the grounds on which they pass.
+pub use Rattle.std.proofs.lemmas.Bool.{false_from_ne_true as refuted}
 use Prim.Native.Nat.{ℕ, ◌<◌}
 use borrow.Author.Tests.{not-true, eq-eqb, eqb-true}
 use mathlib.Core.Bool.{Bool, true, false, not, ◌&&◌, ◌||◌}
@@ -13,10 +14,6 @@ use Rattle.orders.specs.Closed.{Stands}
 use Rattle.plan.specs.Rules.{reckoned, triggered, bars, makes_wait, owes}
 use Rattle.orders.specs.Runs.{Bars, late, lost, second, other, Waits, waits, Owed, needed, called, recalled}
 use Rattle.plan.proofs.Tests.{any_false, any_none, and_not, and_left, and_right, or_either, or_right_true, clash}
-
-pub refuted : (b : Bool) → (b ≡ true → ⊥) → b ≡ false
-refuted true h = absurd (h refl)
-refuted false h = refl
 
 -- a test over the rules that stand fails just where it fails of each
 module _ (p : Plan) (l : ℕ → Bool) (t : Rule → Bool) where

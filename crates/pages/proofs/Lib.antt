@@ -1,3 +1,4 @@
--- Lemmas on bytes put into a page one after another, and on a text copied into a buffer.
+-- Lemmas on the text of a page that bytes are put into, on bytes put from an offset on, and on a text copied into a
+-- buffer.
+pub mod Texts
 pub mod Pages
-pub mod Copied

@@ -1,114 +1,84 @@
--- Texts put into a page one after another, and a text byte by byte.
-use Prim.Native.Nat.{ℕ, suc, ◌+◌, ◌≤◌, ◌<◌}
-use native.Mathlib.Numerals.{add-one}
+-- Bytes put into a page from an offset on, by whether it has room for them, and the text of a page that they end.
+use Prim.Native.Nat.{ℕ, ◌+◌, ◌≤◌, ◌<◌}
 use native.Mathlib.Omega.{arith}
-use mathlib.Core.List.{List, [], ◌∷◌, ◌++◌}
-use mathlib.Core.Path.{◌≡◌, refl, sym, ◌∙◌, ap}
+use mathlib.Core.List.{List, ◌++◌}
+use mathlib.Core.Logic.{inl, inr}
+use mathlib.Core.Path.{◌≡◌, refl, sym, ◌∙◌}
 use borrow.Author.Tests.{le-leb, lt-leb}
-use lib.ListN.{length, get_or, take, set, length-append}
-use lib.Seq.{sets, take-suc, take_all}
+use borrow.Rule.Slice.PartMut.{put_mid}
+use lib.ListN.{length, take, drop, length-append}
+use lib.Seq.{sets-eq}
+use Rattle.std.proofs.lemmas.Bool.{cases_lt}
+use Rattle.std.proofs.lemmas.List.{take_all}
+use Rattle.std.proofs.lemmas.Slice.{put_mid-paste}
+use Rattle.pages.specs.Text.{text_after}
 use Rattle.pages.specs.Written.{written, Put, end_after, page_after}
+use Rattle.pages.proofs.Texts.{text_size, text_grows, text_stays}
 
--- stores after stores are the stores of both texts
-sets_more : (page : List ℕ) (at n : ℕ) (a b : List ℕ)
-    → n ≡ at + length a
-    → sets (sets page at a) n b ≡ sets page at (a ++ b)
-sets_more page at n [] b e = ap (λ (k : ℕ). sets page k b) (omega arith)
-sets_more page at n (x ∷ a) b e = sets_more (set page at x) (suc at) n a b (omega arith)
+-- where bytes end lies within the page
+pub put_within : (at : ℕ) (bytes : List ℕ) (end : ℕ) → end ≡ end_after at bytes → at ≤ 320 → end ≤ 320
+unfolding end_after
+put_within at bytes end ends within = elim (cases_lt 320 (at + length bytes)) [
+  | inl full ↦ let e = rw (lt-leb (at + length bytes) 320 full) at ends in omega (arith, e, within)
+  | inr room ↦ let e = rw (le-leb (at + length bytes) 320 room) at ends in omega (arith, e, room)
+]
 
--- nothing is put
-pub put_none : (page : List ℕ) (at : ℕ) → Put page at [] page at
-unfolding written
-put_none page at = record { ends = omega arith; bytes = refl }
-
--- one byte
-pub put_byte : (page : List ℕ) (at b : ℕ) → Put page at (b ∷ []) (set page at b) (at + 1)
-unfolding written
-put_byte page at b = record { ends = refl; bytes = refl }
-
--- a text, and one after it
-pub put_then : {page : List ℕ} {at : ℕ} {a : List ℕ} {mid : List ℕ} {n : ℕ} {b : List ℕ} {after : List ℕ} {end : ℕ}
-    → Put page at a mid n
-    → Put mid n b after end
-    → Put page at (a ++ b) after end
-unfolding written
-put_then {page} {at} {a} {mid} {n} {b} {after} {end} p q = record {
-  ends = omega (arith, length-append a b, p.ends, q.ends);
-  bytes = q.bytes ∙ ap (λ (l : List ℕ). sets l n b) p.bytes ∙ sets_more page at n a b p.ends;
-}
-
--- the same text under another name
-pub put_as : {page : List ℕ} {at : ℕ} {a b : List ℕ} {after : List ℕ} {end : ℕ}
-    → a ≡ b
-    → Put page at a after end
-    → Put page at b after end
-put_as {page} {at} {a} {b} {after} {end} e p = rw e at p
-
--- nothing of a word
-pub word_none : (page : List ℕ) (at : ℕ) → Put page at [] page (at + 0)
-unfolding written
-word_none page at = record { ends = refl; bytes = refl }
-
--- a word: one byte more
-pub word_next : (word page after : List ℕ) (at i : ℕ)
-    → i < length word
-    → Put page at (take i word) after (at + i)
-    → Put page at (take (i + 1) word) (set after (at + i) (get_or word i 0)) (at + (i + 1))
-word_next word page after at i h p =
-    rw (add-one i, take-suc word i 0 h) (put_end (put_then p (put_byte after (at + i) (get_or word i 0))))
-  where
-    put_end : Put page at (take i word ++ (get_or word i 0 ∷ [])) (set after (at + i) (get_or word i 0)) (at + i + 1)
-        → Put page at (take i word ++ (get_or word i 0 ∷ [])) (set after (at + i) (get_or word i 0)) (at + suc i)
-    put_end q = record { ends = omega (arith, q.ends); bytes = q.bytes }
-
--- the whole word
-pub word_all : (word page after : List ℕ) (at i : ℕ)
-    → length word ≤ i
-    → i ≤ length word
-    → Put page at (take i word) after (at + i)
-    → Put page at word after (at + length word)
-word_all word page after at i h k p = let e : i ≡ length word = omega arith in rw e at (put_as (take_all i word h) p)
-
--- a text that is two, one after the other
-module _ {text : List ℕ} (a b : List ℕ) (split : text ≡ a ++ b) where
-  -- its length is the sum
-  sizes : length text ≡ length a + length b
-  sizes = ap length split ∙ length-append a b
-
-  -- where it has room, they have
-  pub room_first : (at : ℕ) → at + length text ≤ 320 → at + length a ≤ 320
-  room_first at room = omega (arith, sizes)
-
-  pub room_then : (at n : ℕ) → at + length text ≤ 320 → n ≡ at + length a → n + length b ≤ 320
-  room_then at n room ends = omega (arith, sizes)
-
-  -- it is put by putting both
-  pub put_both : {page : List ℕ} {at : ℕ} {mid : List ℕ} {n : ℕ} {after : List ℕ} {end : ℕ}
-      → Put page at a mid n
-      → Put mid n b after end
-      → Put page at text after end
-  put_both p q = put_as (sym split) (put_then p q)
-
--- putting, by whether there is room
-module _ (page : List ℕ) (at : ℕ) (text : List ℕ) where
+module _ (page : List ℕ) (at : ℕ) (bytes : List ℕ) where
   -- what putting comes to
   abbrev pub After : List ℕ → ℕ → Type 0
-  After after end = (end ≡ end_after at text) × (after ≡ page_after page at text)
+  After after end = (end ≡ end_after at bytes) × (after ≡ page_after page at bytes)
 
-  -- there is none: nothing is put
-  pub put_no_room : 320 < at + length text → After page at
+  -- there is no room: nothing is put
+  pub put_no_room : 320 < at + length bytes → After page at
   unfolding end_after page_after
-  put_no_room h = (rw (lt-leb (at + length text) 320 h), rw (lt-leb (at + length text) 320 h))
+  put_no_room h = (rw (lt-leb (at + length bytes) 320 h), rw (lt-leb (at + length bytes) 320 h))
 
-  -- there is: the text is put
-  module _ (room : at + length text ≤ 320) (after : List ℕ) (end : ℕ) where
-    pub after_put : Put page at text after end → After after end
+  -- there is: the bytes are put
+  module _ (room : at + length bytes ≤ 320) (after : List ℕ) (end : ℕ) where
+    pub after_put : Put page at bytes after end → After after end
     unfolding end_after page_after
-    after_put p = (rw (le-leb (at + length text) 320 room) p.ends, rw (le-leb (at + length text) 320 room) p.bytes)
+    after_put p = (rw (le-leb (at + length bytes) 320 room) p.ends, rw (le-leb (at + length bytes) 320 room) p.bytes)
 
-    pub put_after : After after end → Put page at text after end
+    pub put_after : After after end → Put page at bytes after end
     unfolding end_after page_after
     put_after h = record {
-      ends = rw (le-leb (at + length text) 320 room) at h.0;
-      bytes = rw (le-leb (at + length text) 320 room) at h.1;
+      ends = rw (le-leb (at + length bytes) 320 room) at h.0;
+      bytes = rw (le-leb (at + length bytes) 320 room) at h.1;
     }
+
+  -- a part of the page that they are copied over
+  pub put_part : (stored : List ℕ) (k : ℕ)
+      → stored ≡ bytes
+      → k ≡ length bytes
+      → at + length bytes ≤ length page
+      → Put page at bytes (put_mid at k page stored) (at + length bytes)
+  unfolding written
+  put_part stored k same size within = record {
+    ends = refl;
+    bytes = put_mid-paste at k page stored bytes (length bytes) same (sym size) refl
+        ∙ (λ i. take at page ++ take_all (length bytes) bytes (omega arith) i ++ drop (at + length bytes) page)
+        ∙ sym (sets-eq bytes page at within);
+  }
+
+-- a page whose first `len` bytes are the text, and bytes put behind them
+module _ (page text : List ℕ) (len : ℕ)
+    (whole : length page ≡ 320) (within : len ≤ 320) (is : take len page ≡ text)
+    (bytes after : List ℕ) (end : ℕ) (put : After page len bytes after end) where
+  -- its text, with room for them or not
+  grown : len + length bytes ≤ 320 → take end after ≡ text_after text bytes
+  grown room =
+      let p = put_after page len bytes room after end put in
+      let q = put_part page len bytes bytes (length bytes) refl refl (omega (arith, whole)) in
+      (λ i. take (p.ends i) ((p.bytes ∙ sym q.bytes) i))
+      ∙ text_grows page text len whole within is bytes bytes (length bytes) refl (omega arith)
+
+  kept : 320 < len + length bytes → take end after ≡ text_after text bytes
+  kept full =
+      let stays = put_no_room page len bytes full in
+      let size = text_size page text len whole within is in
+      (λ i. take ((put.0 ∙ sym stays.0) i) ((put.1 ∙ sym stays.1) i))
+      ∙ is
+      ∙ sym (text_stays text bytes (omega (arith, size, length-append text bytes)))
+
+  pub text_put_after : take end after ≡ text_after text bytes
+  text_put_after = elim (cases_lt 320 (len + length bytes)) [ inl full ↦ kept full | inr room ↦ grown room ]

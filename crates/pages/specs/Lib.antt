@@ -1,3 +1,4 @@
--- What a lent buffer holds after a text is written into it, and a page after bytes are put into it.
+-- What a lent buffer holds after a text is written into it, and a page and its text after bytes are put into it.
 pub mod Filled
+pub mod Text
 pub mod Written

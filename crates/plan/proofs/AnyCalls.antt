@@ -9,12 +9,12 @@ use mathlib.Core.List.{List, [], ◌∷◌, ◌++◌}
 use mathlib.Core.Path.{◌≡◌, refl, sym, ◌∙◌, ap}
 use borrow.Author.Tests.{ne_eqb, le-ltb, lt-ltb, ltb-true}
 use lib.Dec.{ltb}
-use lib.ListN.{length, get_or, drop, length-drop}
-use lib.Seq.{drop-cons, get_or-drop}
+use lib.ListN.{length, get_or, take, drop, length-drop}
+use lib.Seq.{drop-cons, get_or-drop, take_all}
 use lib.Pow.{are_bytes}
 use Rattle.plan.specs.Prelude.{Call, Submit, Close, Finish, Advance, CallRead, Listed, End, Bad}
 use Rattle.plan.specs.Calls.{bytes_of, call_bytes, call_size, first_call, advance_in, any_call_first, Decoded, and_then, decode, decode_all, encode}
-use Rattle.plan.specs.Records.{word_of, word_at}
+use Rattle.plan.specs.Records.{word_at}
 use Rattle.plan.proofs.Tests.{and_left, and_right, and_both, clash}
 use Rattle.plan.proofs.ByteReads.{past_end}
 use Rattle.plan.proofs.CallRecords.{finish_first, word_back}
@@ -45,22 +45,17 @@ module _ (b : List ℕ) (at : ℕ) where
       let here : get_or (drop at b) 0 0 ≡ get_or b at 0 = get_or-drop at b 0 0 ∙ ap (λ (k : ℕ). get_or b k 0) (omega arith) in
       is ∙ another_kind (drop at b) (λ h. ne (sym here ∙ h))
 
-  -- the bytes after kind 19: fewer than four, and four
-  pub advance_cut : length b - at < 5 → Bad ≡ advance_in (drop (at + 1) b)
-  unfolding advance_in
-  advance_cut h = rw (lt-ltb (length (drop (at + 1) b)) 4 (omega (arith, length-drop (at + 1) b)), advance_in)
+-- the bytes after kind 19, as the code takes them: fewer than four, and four
+pub rest_of : (b : List ℕ) (n : ℕ) → take (length b - n) (drop n b) ≡ drop n b
+rest_of b n = take_all (length b - n) (drop n b) (omega (arith, length-drop n b))
 
-  pub advance_whole : (m : ℕ)
-      → 5 ≤ length b - at
-      → m ≡ word_of (get_or b (at + 1) 0) (get_or b (at + 2) 0) (get_or b (at + 3) 0) (get_or b (at + 4) 0)
-      → Listed (Advance m) ≡ advance_in (drop (at + 1) b)
-  unfolding advance_in
-  advance_whole m long is =
-      let l = drop (at + 1) b in
-      let byte : (i j : ℕ) → j ≡ at + 1 + i → get_or b j 0 ≡ get_or l i 0 = λ i j e. ap (λ (k : ℕ). get_or b k 0) e ∙ sym (get_or-drop (at + 1) b i 0) in
-      let word : m ≡ word_at l 0 = is
-      ∙ rw (byte 0 (at + 1) (omega arith), byte 1 (at + 2) (omega arith), byte 2 (at + 3) (omega arith), byte 3 (at + 4) (omega arith)) in
-      rw (le-ltb (length l) 4 (omega (arith, length-drop (at + 1) b)), advance_in) (ap (λ (v : ℕ). Listed (Advance v)) word)
+pub advance_cut : (rest : List ℕ) → length rest < 4 → Bad ≡ advance_in rest
+unfolding advance_in
+advance_cut rest few = rw (lt-ltb (length rest) 4 few, advance_in)
+
+pub advance_whole : (rest : List ℕ) (m : ℕ) → 4 ≤ length rest → m ≡ word_at rest 0 → Listed (Advance m) ≡ advance_in rest
+unfolding advance_in
+advance_whole rest m long is = rw (le-ltb (length rest) 4 long, is, advance_in)
 
 -- every call is read back from its record, whatever follows
 pub call_back : (c : Call) (b : List ℕ) → any_call_first (call_bytes c ++ b) ≡ Listed c

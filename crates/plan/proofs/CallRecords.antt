@@ -15,7 +15,7 @@ use Rattle.plan.specs.Calls.{bytes_of, call_size, call_of, first_call, and_then,
 use Rattle.plan.specs.Records.{word_of}
 use Rattle.plan.proofs.Tests.{and_left, and_right, and_both, clash}
 
--- a record by its kind k, with the byte x after it
+-- a kind with a byte after it
 module _ (k x : ℕ) where
   pub of_submit : k ≡ 16 → Listed (Submit x) ≡ call_of k x
   of_submit h = rw h
@@ -26,28 +26,63 @@ module _ (k x : ℕ) where
   pub of_finish : k ≡ 18 → Listed Finish ≡ call_of k x
   of_finish h = rw h
 
-  pub of_another : (k ≡ 16 → ⊥) → (k ≡ 17 → ⊥) → (k ≡ 18 → ⊥) → Bad ≡ call_of k x
-  of_another p q r = rw (ne_eqb k 16 p, ne_eqb k 17 q, ne_eqb k 18 r, call_of)
+-- 18 alone, whatever follows
+pub finish_first : (b : List ℕ) → first_call (18 ∷ b) ≡ Listed Finish
+unfolding first_call
+finish_first [] = refl
+finish_first (x ∷ b) = refl
 
--- the record at an offset, by the bytes that are left there: none, one, more
+-- a kind that no call of the runner has
+pub of_another : (k x : ℕ) → (k ≡ 16 → ⊥) → (k ≡ 17 → ⊥) → (k ≡ 18 → ⊥) → Bad ≡ call_of k x
+of_another k x p q r = rw (ne_eqb k 16 p, ne_eqb k 17 q, ne_eqb k 18 r, call_of)
+
+another_first : (k : ℕ) (b : List ℕ) → (k ≡ 16 → ⊥) → (k ≡ 17 → ⊥) → (k ≡ 18 → ⊥) → Bad ≡ first_call (k ∷ b)
+unfolding first_call
+another_first k [] p q r = rw (ne_eqb k 18 r, first_call)
+another_first k (x ∷ b) p q r = of_another k x p q r
+
+-- the record at an offset: none is left, or one of a kind k, where x is the byte after it
 module _ (b : List ℕ) (at : ℕ) where
   pub none_left : length b ≤ at → End ≡ first_call (drop at b)
   unfolding first_call
   none_left h = rw (drop_of_length-le b h)
 
-  module _ (r : CallRead) (some_left : at < length b) where
-    pub one_left : length b - at ≡ 1 → r ≡ first_call (get_or b at 0 ∷ []) → r ≡ first_call (drop at b)
-    one_left one is =
-        let none : drop (suc at) b ≡ [] = drop_of_length-le b {i = suc at} (omega arith) in
-        let here : drop at b ≡ get_or b at 0 ∷ [] = drop-cons b at 0 some_left ∙ rw none in
-        is ∙ ap first_call (sym here)
+  -- two bytes are left, or more
+  pub more_left : (r : CallRead)
+      → at < length b
+      → (length b - at ≡ 1 → ⊥)
+      → r ≡ call_of (get_or b at 0) (get_or b (at + 1) 0)
+      → r ≡ first_call (drop at b)
+  unfolding first_call
+  more_left r some_left more is =
+      let next : drop (suc at) b ≡ get_or b (at + 1) 0 ∷ drop (suc (suc at)) b = rw (add-one at) (drop-cons b (suc at) 0 (omega arith)) in
+      let here : drop at b ≡ get_or b at 0 ∷ get_or b (at + 1) 0 ∷ drop (suc (suc at)) b = drop-cons b at 0 some_left ∙ rw next in
+      is ∙ ap first_call (sym here)
 
-    pub more_left : (length b - at ≡ 1 → ⊥) → r ≡ call_of (get_or b at 0) (get_or b (at + 1) 0) → r ≡ first_call (drop at b)
+  module _ (k : ℕ) (some_left : at < length b) (is : k ≡ get_or b at 0) where
+    here : drop at b ≡ k ∷ drop (suc at) b
+    here = drop-cons b at 0 some_left ∙ ap (λ (n : ℕ). n ∷ drop (suc at) b) (sym is)
+
+    pub finish_left : k ≡ 18 → Listed Finish ≡ first_call (drop at b)
+    finish_left h = rw (here, h) (sym (finish_first (drop (suc at) b)))
+
+    pub another_left : (k ≡ 16 → ⊥) → (k ≡ 17 → ⊥) → (k ≡ 18 → ⊥) → Bad ≡ first_call (drop at b)
+    another_left p q r = rw here (another_first k (drop (suc at) b) p q r)
+
+    pub cut_left : length b ≤ at + 1 → (k ≡ 18 → ⊥) → Bad ≡ first_call (drop at b)
     unfolding first_call
-    more_left more is =
-        let next : drop (suc at) b ≡ get_or b (at + 1) 0 ∷ drop (suc (suc at)) b = rw (add-one at) (drop-cons b (suc at) 0 (omega arith)) in
-        let here : drop at b ≡ get_or b at 0 ∷ get_or b (at + 1) 0 ∷ drop (suc (suc at)) b = drop-cons b at 0 some_left ∙ rw next in
-        is ∙ ap first_call (sym here)
+    cut_left h r =
+        let none : drop (suc at) b ≡ [] = drop_of_length-le b {i = suc at} (omega arith) in
+        rw (here, none, ne_eqb k 18 r, first_call)
+
+    module _ (x : ℕ) (more : at + 1 < length b) (next : x ≡ get_or b (at + 1) 0) where
+      pub submit_left : k ≡ 16 → Listed (Submit x) ≡ first_call (drop at b)
+      submit_left h =
+          more_left (Listed (Submit x)) some_left (λ one. omega (arith, more, one)) (rw (← next, ← is, h))
+
+      pub close_left : k ≡ 17 → Listed (Close x) ≡ first_call (drop at b)
+      close_left h =
+          more_left (Listed (Close x)) some_left (λ one. omega (arith, more, one)) (rw (← next, ← is, h))
 
 -- the branches of the decoding
 module _ (first : List ℕ → CallRead) (n : ℕ) (b : List ℕ) where
@@ -72,12 +107,6 @@ byte_numbers (Submit e ∷ cs) = ltb e 256 && byte_numbers cs
 byte_numbers (Close k ∷ cs) = ltb k 256 && byte_numbers cs
 byte_numbers (Finish ∷ cs) = byte_numbers cs
 byte_numbers (Advance m ∷ cs) = false
-
--- 18 alone, whatever follows
-pub finish_first : (b : List ℕ) → first_call (18 ∷ b) ≡ Listed Finish
-unfolding first_call
-finish_first [] = refl
-finish_first (x ∷ b) = refl
 
 -- with a budget of as many records as calls, or more
 read_back : (n : ℕ) (cs : List Call)

@@ -1,7 +1,7 @@
 -- What is known of a record without a fault: no row of the table applies to it.
 use Prim.Native.Nat.{ℕ, ◌+◌, ◌≤◌, ◌<◌}
 use mathlib.Core.Bool.{false, not, ◌&&◌, ◌||◌}
-use mathlib.Core.Option.{none}
+use Rattle.std.specs.declared.option.Option.TheVariants.{None as none}
 use mathlib.Core.Path.{◌≡◌}
 use borrow.Author.Tests.{ltb-false, leb-false, eqb-false, le-ltb, lt-leb, ne_eqb}
 use lib.Dec.{eqb, ltb}

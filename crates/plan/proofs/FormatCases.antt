@@ -5,7 +5,7 @@ use mathlib.Core.Bool.{Bool, true, false}
 use mathlib.Core.List.{List, [], ◌∷◌, ◌++◌, map}
 use mathlib.Core.Path.{◌≡◌, refl}
 use lib.ListN.{take}
-use Rattle.plan.specs.Prelude.{FateAnswered, Held, Rule, Order, Need, Conditional, Call, Submit, Close, Finish, Advance}
+use Rattle.plan.specs.Prelude.{some, none, Held, Rule, Order, Need, Conditional, Call, Submit, Close, Finish, Advance}
 use Rattle.plan.specs.Prelude.{Cut, BadKind, Full, BadStep, BadAttributes, BadNames, Unenforceable, Extra, BadWindow}
 use Rattle.plan.specs.Prelude.{Unknown, AlreadyClosed, NotClosed, Incoherent, TooLong, NoRoom, Backward, Answer, Is, Made, TurnedDown}
 use Rattle.plan.specs.Plans.{event_count, rule_count}
@@ -198,6 +198,6 @@ answers = Is Held ∷ Made ∷ TurnedDown Unknown ∷ TurnedDown Incoherent ∷ 
 -- an answer's number, its fate, and whether the call is turned down
 pub answered :
     (map answer_number answers ≡ 0 ∷ 0 ∷ 9 ∷ 12 ∷ [])
-    × (map answer_fate answers ≡ FateAnswered.Is Held ∷ FateAnswered.Nothing ∷ FateAnswered.Nothing ∷ FateAnswered.Nothing ∷ [])
+    × (map answer_fate answers ≡ some Held ∷ none ∷ none ∷ none ∷ [])
     × (map is_turned_down answers ≡ false ∷ false ∷ true ∷ true ∷ [])
 answered = (refl, refl, refl)

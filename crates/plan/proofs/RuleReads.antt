@@ -1,37 +1,57 @@
--- Tests of a rule over the array of a plan's events, by what the code reads out of it; and the events that a rule names.
-use Prim.Native.Nat.{ℕ, ◌≤◌, ◌<◌}
-use borrow.Author.Tests.{ltb-true, not-true}
+-- Tests of a rule over the array of a plan's events, by what the code reads out of it; the bits of attributes; and the
+-- events that a rule names.
+use Prim.Native.Nat.{ℕ, ◌*◌, ◌/◌, ◌%◌, ◌^◌, ◌≤◌, ◌<◌}
+use native.Mathlib.Decide.{dec_lt}
+use native.Mathlib.Omega.{arith}
+use borrow.Author.Tests.{ltb-true, not-true, eq-eqb, ne_eqb}
+use Rattle.std.proofs.Common.{bit_and}
+use Rattle.std.proofs.lemmas.Nat.{pow_pos}
+use Rattle.std.proofs.lemmas.Nat.Bits.{and_pow}
 use mathlib.Core.Bool.{Bool, true, false, not, ◌&&◌, ◌||◌}
 use mathlib.Core.List.{List}
 use mathlib.Core.Path.{◌≡◌, sym, ◌∙◌, ap}
 use lib.Dec.{eqb, ltb}
 use lib.ListN.{get_or}
+use Rattle.plan.proofs.Arrays.{read_in, read_past}
 use Rattle.plan.specs.Prelude.{Event, Rule, Order, Need, Conditional, Plan}
 use Rattle.plan.specs.Base.{read_at}
 use Rattle.plan.specs.Plans.{blank_event, attributes_of, holds_bit, forcible, rejectable, delayable}
 use Rattle.plan.specs.Rules.{named, enforceable}
-use Rattle.plan.proofs.Arrays.{read_in, read_past}
 use Rattle.plan.proofs.Tests.{and_left, and_right}
 
+-- a bit of the attributes, as the code's `&` tests it
+pub bit_test : (k n : ℕ) → not (eqb (bit_and n (2 ^ k)) 0) ≡ holds_bit (2 ^ k) n
+bit_test k n = rw (and_pow n k) (go (n / 2 ^ k % 2) (omega arith))
+  where
+    go : (b : ℕ) → b < 2 → not (eqb (b * 2 ^ k) 0) ≡ eqb b 1
+    go b lt = elim (dec_lt b 1) [
+      | yes none ↦ let is : b ≡ 0 = omega arith in rw is (ap not (eq-eqb (0 * 2 ^ k) 0 (omega arith)))
+      | no some ↦
+          let is : b ≡ 1 = omega (arith, some) in
+          let above = pow_pos k in
+          rw is (ap not (ne_eqb (1 * 2 ^ k) 0 (λ zero. omega (arith, zero, above))))
+    ]
+
 module _ (p : Plan) where
+  -- the attributes that the code reads are those of the plan's event e
+  pub attributes_read : (events : List Event) (v : Event) (e : ℕ)
+      → p.events ≡ events
+      → v ≡ read_at 16 events e blank_event
+      → v.attributes ≡ attributes_of p e
+  attributes_read events v e same read =
+      ap (λ (w : Event). w.attributes) read
+      ∙ ap (λ (l : List Event). (read_at 16 l e blank_event).attributes) (sym same)
+
   -- bit k of the plan's event e, where the code read the attributes x in the array, or took 0 past its places, and r in x
   module _ (events : List Event) (same : p.events ≡ events) (k e x : ℕ) (r : Bool) (bit : r ≡ holds_bit k x) where
-    attributes_read : (read_at 16 events e blank_event).attributes ≡ x → r ≡ holds_bit k (attributes_of p e)
-    attributes_read read =
-        bit
-        ∙ ap (holds_bit k) (sym read)
-        ∙ ap (λ (l : List Event). holds_bit k (read_at 16 l e blank_event).attributes) (sym same)
-
     pub bit_in : e < 16 → x ≡ (get_or events e blank_event).attributes → r ≡ holds_bit k (attributes_of p e)
     bit_in lt is =
-        attributes_read (ap (λ (w : Event). w.attributes) (read_in 16 events e blank_event lt) ∙ sym is)
+        bit
+        ∙ ap (holds_bit k) (is ∙ attributes_read events (get_or events e blank_event) e same (sym (read_in 16 events e blank_event lt)))
 
     pub bit_past : 16 ≤ e → x ≡ 0 → r ≡ holds_bit k (attributes_of p e)
-    bit_past ge is = attributes_read (ap (λ (w : Event). w.attributes) (read_past 16 events e blank_event ge) ∙ sym is)
-
-  -- the same of an event by another name for it
-  pub bit_named : (k n e : ℕ) (r : Bool) → n ≡ e → r ≡ holds_bit k (attributes_of p n) → r ≡ holds_bit k (attributes_of p e)
-  bit_named k n e r same h = h ∙ ap (λ (x : ℕ). holds_bit k (attributes_of p x)) same
+    bit_past ge is =
+        bit ∙ ap (holds_bit k) (is ∙ attributes_read events blank_event e same (sym (read_past 16 events e blank_event ge)))
 
   module _ (rule : Rule) (a b : ℕ) where
     pub order_enforced : (x y : Bool)

@@ -1,4 +1,5 @@
 -- Windows of time: what is allowed, and what is over for good.
+pub use mathlib.Core.Bool.{not-not as not_twice}
 use Prim.Native.Nat.{ℕ, ◌≤◌, ◌<◌}
 use native.Mathlib.Omega.{arith}
 use native.Mathlib.Decide.{dec_lt}
@@ -12,10 +13,6 @@ use Rattle.plan.specs.Plans.{event_count, blank_window, window_at, from_of, unti
 use Rattle.plan.specs.Rules.{sound_window, sound_windows}
 use Rattle.plan.proofs.Tests.{and_left, and_right, and_both, or_either, clash, either, all_at}
 use Rattle.plan.proofs.Arrays.{read_past}
-
-pub not_twice : (b : Bool) → not (not b) ≡ b
-not_twice true = refl
-not_twice false = refl
 
 -- past the places there is none
 pub window_past : (p : Plan) (e : ℕ) → 16 ≤ e → window_at p e ≡ blank_window

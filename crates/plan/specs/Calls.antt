@@ -1,6 +1,6 @@
 -- Call records: the bytes of a call, and the calls that bytes list.
-use Rattle.std.specs.Prelude.{◌/◌, ◌%◌, ◌∷◌, ◌++◌}
-use Rattle.plan.specs.Prelude.{ℕ, zero, suc, Bool, true, false, List, [], eqb, ltb, drop, length, Call, Submit, Close, Finish, Advance, CallRead, Listed, End, Bad}
+use Rattle.std.specs.Prelude.{◌/◌, ◌%◌, ◌∷◌, ◌++◌, ◌≤◌, ◌<◌, ◌≡◌}
+use Rattle.plan.specs.Prelude.{ℕ, zero, suc, Bool, true, false, List, [], eqb, ltb, get_or, drop, length, Call, Submit, Close, Finish, Advance, CallRead, Listed, End, Bad}
 use Rattle.plan.specs.Records.{word_at}
 
 -- a number as four bytes, the lowest first (3.5)
@@ -14,6 +14,10 @@ call_bytes (Submit e) = 16 ∷ e ∷ []
 call_bytes (Close k) = 17 ∷ k ∷ []
 call_bytes Finish = 18 ∷ []
 call_bytes (Advance m) = 19 ∷ bytes_of m
+
+-- the bytes from an offset up to another are the records of finishes, one each (13.2)
+abbrev pub Finishes : List ℕ → ℕ → ℕ → Type 0
+Finishes b from past = (i : ℕ) → from ≤ i → i < past → get_or b i 0 ≡ 18
 
 -- how many bytes the record of a call has (13.2)
 abbrev pub call_size : Call → ℕ

@@ -1,6 +1,6 @@
 -- Why a sheet or a call is turned down, what a call answers, and the first row of a table that applies.
 use Rattle.std.specs.Prelude.{◌∷◌}
-use Rattle.plan.specs.Prelude.{ℕ, Bool, true, false, List, [], Option, none, some, SheetFault, Cut, BadKind, Full, BadStep, BadAttributes, BadNames, Unenforceable, Extra, BadWindow, CallFault, Unknown, AlreadyClosed, NotClosed, Incoherent, TooLong, NoRoom, Backward, Answer, Is, Made, TurnedDown, FateAnswered}
+use Rattle.plan.specs.Prelude.{ℕ, Bool, true, false, List, [], Option, none, some, Result, Fate, Refusal, SheetFault, Cut, BadKind, Full, BadStep, BadAttributes, BadNames, Unenforceable, Extra, BadWindow, CallFault, Unknown, AlreadyClosed, NotClosed, Incoherent, TooLong, NoRoom, Backward, Answer, Is, Made, TurnedDown}
 
 -- the number of each fault for which a sheet is turned down (4.2)
 abbrev pub sheet_fault_number : SheetFault → ℕ
@@ -28,16 +28,23 @@ call_fault_number f = elim f [
   | Backward ↦ 16
 ]
 
+-- what reading a sheet gives: it is admitted, or turned down with a fault and its offset (4.1)
+abbrev pub Verdict : Type 0
+Verdict = Result Unit Refusal
+
+abbrev pub refusal : SheetFault → ℕ → Refusal
+refusal f at = record { fault = f; at = at }
+
 -- an answer's number: that of the fault if the call is turned down, 0 if it is accepted (9.6)
 abbrev pub answer_number : Answer → ℕ
 answer_number a = elim a [ Is x ↦ 0 | Made ↦ 0 | TurnedDown f ↦ call_fault_number f ]
 
 -- an answer's fate: an accepted submit (hand in) answers one, and no other answer has one (9.6)
-abbrev pub answer_fate : Answer → FateAnswered
+abbrev pub answer_fate : Answer → Option Fate
 answer_fate a = elim a [
-  | Is x ↦ FateAnswered.Is x
-  | Made ↦ FateAnswered.Nothing
-  | TurnedDown f ↦ FateAnswered.Nothing
+  | Is x ↦ some x
+  | Made ↦ none
+  | TurnedDown f ↦ none
 ]
 
 abbrev pub is_turned_down : Answer → Bool

@@ -1,5 +1,4 @@
--- The definitions of a plan that a reader has to believe; each file stands before those that use it. `Internal` is for
--- private functions.
+-- The definitions of a plan that a reader has to believe; each file stands before those that use it.
 pub mod Prelude
 pub mod Base
 pub mod Fates
@@ -10,4 +9,3 @@ pub mod Faults
 pub mod Records
 pub mod Sheets
 pub mod Calls
-pub mod Internal

@@ -1,6 +1,7 @@
 -- The names that the definitions use: those of the library, passed on unchanged, and the types that the code declares.
 pub use Rattle.std.specs.Prelude.{ℕ, zero, suc, Bool, true, false, not, cond, List, [], eqb, ltb, leb, length, get_or, take, drop, set, replicate}
-pub use Rattle.std.proofs.Math.Option.{Option, none, some}
+pub use Rattle.std.specs.declared.option.Option.{Option}
+pub use Rattle.std.specs.declared.option.Option.TheVariants.{None as none, Some as some}
 pub use Rattle.plan.specs.declared.fate.Fate.{Fate}
 pub use Rattle.plan.specs.declared.fate.Fate.TheVariants.{Open, Held, Done, Refused, Lapsed, Forced}
 pub use Rattle.plan.specs.declared.fate.Standing.{Standing}
@@ -22,6 +23,6 @@ pub use Rattle.plan.specs.declared.answer.CallFault.{CallFault}
 pub use Rattle.plan.specs.declared.answer.CallFault.TheVariants.{Unknown, AlreadyClosed, NotClosed, Incoherent, TooLong, NoRoom, Backward}
 pub use Rattle.plan.specs.declared.answer.Answer.{Answer}
 pub use Rattle.plan.specs.declared.answer.Answer.TheVariants.{Is, Made, TurnedDown}
-pub use Rattle.plan.specs.declared.answer.FateAnswered.{FateAnswered}
-pub use Rattle.plan.specs.declared.answer.Verdict.{Verdict}
-pub use Rattle.plan.specs.declared.answer.Verdict.TheVariants.{Admitted, Faulty}
+pub use Rattle.plan.specs.declared.answer.Refusal.{Refusal}
+pub use Rattle.std.specs.declared.result.Result.{Result}
+pub use Rattle.std.specs.declared.result.Result.TheVariants.{Ok, Err}

@@ -1,10 +1,10 @@
 // Why a sheet or a call is turned down, and what it answers.
 use super::fate::Fate;
 
-// Why a sheet is turned down, in the order of the numbers 1 to 8 and 15.
+// Why a sheet is turned down, with its number.
 #[derive(Clone, Copy)]
 pub enum SheetFault {
-    Cut,
+    Cut = 1,
     BadKind,
     Full,
     BadStep,
@@ -12,19 +12,19 @@ pub enum SheetFault {
     BadNames,
     Unenforceable,
     Extra,
-    BadWindow,
+    BadWindow = 15,
 }
 
-// Why a call is turned down, in the order of the numbers 9 to 14 and 16; 13 is for a batch, and 14 for a lent buffer.
+// Why a call is turned down, with its number; 13 is for a batch, and 14 for a lent buffer.
 #[derive(Clone, Copy)]
 pub enum CallFault {
-    Unknown,
+    Unknown = 9,
     AlreadyClosed,
     NotClosed,
     Incoherent,
     TooLong,
     NoRoom,
-    Backward,
+    Backward = 16,
 }
 
 // What a call answers: a submit (hand in) the event's fate, any other call that it was made.
@@ -35,16 +35,12 @@ pub enum Answer {
     TurnedDown(CallFault),
 }
 
-// The fate that an answer gives: an accepted submit answers one, nothing else does.
+// Why a sheet is turned down, and the offset of the fault.
 #[derive(Clone, Copy)]
-pub enum FateAnswered {
-    Is(Fate),
-    Nothing,
+pub struct Refusal {
+    pub fault: SheetFault,
+    pub at: usize,
 }
 
-// What reading a sheet gives: it is admitted, or the fault and its offset.
-#[derive(Clone, Copy)]
-pub enum Verdict {
-    Admitted,
-    Faulty(SheetFault, usize),
-}
+// What reading a sheet gives: it is admitted, or turned down.
+pub type Verdict = Result<(), Refusal>;

@@ -1,6 +1,13 @@
 // Events and their attributes.
 
-// What a sheet declares of an event. The attributes' bits: 1 forcible, 2 rejectable, 4 delayable.
+// The bits of an event's attributes.
+pub const FORCIBLE: u8 = 1;
+
+pub const REJECTABLE: u8 = 2;
+
+pub const DELAYABLE: u8 = 4;
+
+// What a sheet declares of an event. The attributes are a sum of the bits above.
 #[derive(Clone, Copy)]
 pub struct Event {
     pub step: u8,

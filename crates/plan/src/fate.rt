@@ -2,7 +2,7 @@
 
 // Where an event is: still to come, waiting, or settled in one of four ways (5.1, 5.2). A forced event was open when
 // the scheduler did it.
-#[derive(Clone, Copy)]
+#[derive(Clone, Copy, PartialEq, Eq)]
 pub enum Fate {
     Open,
     Held,

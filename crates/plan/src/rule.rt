@@ -13,11 +13,3 @@ pub enum Rule {
 pub struct RuleLine {
     pub rule: Rule,
 }
-
-// The events that a rule names, by their place in it.
-#[derive(Clone, Copy)]
-pub struct Names {
-    pub first: u8,
-    pub second: u8,
-    pub last: u8,
-}

@@ -22,7 +22,7 @@ use Rattle.scheduler.specs.Lists.{scheduler, after}
 use Rattle.scheduler.specs.Sheet.{read_sheet}
 use Rattle.scheduler.proofs.Cases.{sheet_a, sheet_d, sheet_g, first_on}
 use Rattle.image.specs.Layout.{image_of, place_ok, is_image}
-use Rattle.preview.specs.Preview.{count_of, preview_of}
+use Rattle.preview.specs.Preview.{preview_of}
 use Rattle.preview.specs.Kept.{preview_number, written_by, preview_number_on, counts_on}
 
 -- what a preview comes to: its number, and the four bytes that held 61 to 64 before
@@ -82,7 +82,7 @@ unfolding outcome allowed_at allowed_in over_at over_in ruled_out sound_window s
     do_all order_of chosen to_refuse to_do settle_once settle_up_to settle strains record_broken do_alone decide submit lapse
     close_step refuse_held finish first_fault declared_only same_fates listed_as coherent_event coherent_rule coherent has_event
     call_fault accept call rule_of add_event add_rule add_events declare record_fault ending read_from read_plan sheet_plan
-    read_sheet after count_of preview_of
+    read_sheet after preview_of
 previewed = refl
 
 -- case A's image with the last spare byte set is no image: 12, and nothing is written, whatever the event

@@ -1,14 +1,17 @@
 -- What a hand-in adds to the history: lines that say done, forced or refused, and none where the event isn't open.
-use Prim.Native.Nat.{ℕ, ◌+◌, ◌≤◌}
+use Prim.Native.Nat.{ℕ, ◌+◌, ◌-◌, ◌≤◌}
 use native.Mathlib.Omega.{arith}
 use native.Mathlib.Decide.{dec_lt}
-use mathlib.Core.Bool.{Bool, true, false}
+use mathlib.Core.Bool.{Bool, true, false, cond}
 use mathlib.Core.List.{List, [], ◌∷◌, ◌++◌, append-nil, append_assoc}
-use mathlib.Core.Option.{Option, none, some}
+use Rattle.std.specs.declared.option.Option.{Option}
+use Rattle.std.specs.declared.option.Option.TheVariants.{None as none, Some as some}
 use mathlib.Core.Path.{◌≡◌, refl, sym, ◌∙◌, ap, subst}
-use lib.ListN.{length, drop, length-take, length-append, drop_of_length-le}
+use lib.ListN.{length, drop, take, length-take, length-append, drop_of_length-le}
 use lib.Seq.{length-take-le, drop_at}
-use Rattle.preview.specs.Types.{Fate, Open, Held, Done, Refused, Lapsed, Forced, Entry, Call, Submit, Close, Finish, Advance, CallFault, State, Reply}
+use Rattle.std.proofs.lemmas.List.{drop-take}
+use Rattle.std.proofs.lemmas.List.Sums.{sum_by-append, sum_by-cons}
+use Rattle.preview.specs.Types.{Fate, Open, Held, Done, Refused, Lapsed, Forced, Entry, Call, Submit, Close, Finish, Advance, CallFault, TurnedDown, State, Reply}
 use Rattle.plan.specs.Base.{one_if}
 use Rattle.plan.specs.Fates.{is_open, done_as, same_fate}
 use Rattle.plan.specs.Plans.{rule_count}
@@ -31,9 +34,18 @@ use Rattle.preview.proofs.Replies.{counts_given}
 
 -- counts of two lists, one after the other
 count_append : (x : Fate) (a b : List Entry) → count_of x (a ++ b) ≡ count_of x a + count_of x b
-unfolding count_of
-count_append x [] b = omega arith
-count_append x (l ∷ a) b = omega (arith, count_append x a b)
+count_append x a b = sum_by-append (λ (l : Entry). cond (same_fate l.fate x) 1 0) a b
+
+-- the first of a list of lines
+count_first : (x : Fate) (l : Entry) (ls : List Entry)
+    → count_of x (l ∷ ls) ≡ one_if (same_fate l.fate x) + count_of x ls
+count_first x l ls =
+    sum_by-cons (λ (k : Entry). cond (same_fate k.fate x) 1 0) l ls
+    ∙ ap (λ n. n + count_of x ls) (as_number (same_fate l.fate x))
+  where
+    as_number : (b : Bool) → cond b 1 0 ≡ one_if b
+    as_number true = refl
+    as_number false = refl
 
 -- a line is counted once at most
 once : (x : Fate) → one_if (same_fate x Done) + one_if (same_fate x Refused) + one_if (same_fate x Lapsed) + one_if (same_fate x Forced) ≤ 1
@@ -45,9 +57,17 @@ once Lapsed = omega arith
 once Forced = omega arith
 
 at_most : (ls : List Entry) → count_of Done ls + count_of Refused ls + count_of Lapsed ls + count_of Forced ls ≤ length ls
-unfolding count_of
 at_most [] = omega arith
-at_most (l ∷ ls) = omega (arith, once l.fate, at_most ls)
+at_most (l ∷ ls) =
+    omega (
+      arith,
+      once l.fate,
+      at_most ls,
+      count_first Done l ls,
+      count_first Refused l ls,
+      count_first Lapsed l ls,
+      count_first Forced l ls,
+    )
 
 -- every line says done, forced or refused
 abbrev pub NoneLapsed : List Entry → Type 0
@@ -57,7 +77,6 @@ said_append : (a b : List Entry) → NoneLapsed a → NoneLapsed b → NoneLapse
 said_append a b p q = omega (arith, count_append Done a b, count_append Refused a b, count_append Forced a b, length-append a b, p, q)
 
 said_none : NoneLapsed []
-unfolding count_of
 said_none = refl
 
 -- t's history is that of s and lines that say done, forced or refused
@@ -85,11 +104,9 @@ module _ (x : Fate) (one : (e : ℕ) → NoneLapsed (record { event = e; fate = 
   ]
 
 one_done_lem : (e : ℕ) → NoneLapsed (record { event = e; fate = Done } ∷ [])
-unfolding count_of
 one_done_lem e = refl
 
 one_forced : (e : ℕ) → NoneLapsed (record { event = e; fate = Forced } ∷ [])
-unfolding count_of
 one_forced e = refl
 
 -- one event of an order
@@ -98,7 +115,6 @@ one_turn true = one_forced
 one_turn false = one_done_lem
 
 one_refused : (e : ℕ) → NoneLapsed (record { event = e; fate = Refused } ∷ [])
-unfolding count_of
 one_refused e = refl
 
 grown_order : (s : State) (o : List ℕ) → Sized s → Grown s (do_all s o)
@@ -163,7 +179,6 @@ module _ (s : State) (e : ℕ) (z : Sized s) where
       ∙ drop_at (lines s) grows.new (line_count s) (lines_long s z h)
 
   foretold_same : t ≡ s → Foretold s e
-  unfolding count_of
   foretold_same q =
       let none-added = same_adds q in
       record {
@@ -194,6 +209,29 @@ module _ (s : State) (e : ℕ) (z : Sized s) where
         unlapsed = omega (arith, all, most);
         idle = λ o. same_adds (ap (λ (r : Reply). r.state) (call_accept s (Submit e) h) ∙ accept_same o);
       }
+
+  -- a hand-in that is taken: what it adds stands in the history after it, from one length up to the other
+  module _ (taken : (f : CallFault) → (call s (Submit e)).answer ≡ TurnedDown f → ⊥) where
+    pub within : (line_count s ≤ line_count t) × (line_count t ≤ 16)
+    within = go (call_fault s (Submit e)) refl
+      where
+        go : (q : Option CallFault) → call_fault s (Submit e) ≡ q → (line_count s ≤ line_count t) × (line_count t ≤ 16)
+        go (some f) h = absurd (taken f (ap (λ (r : Reply). r.answer) (call_fault_lem s (Submit e) f h)))
+        go none h =
+            let c = call_coherent s (Submit e) z (accepted_coherent s (Submit e) h) in
+            let y = sized_call s (Submit e) z in
+            (omega (arith, (foretold_taken h).growth), len_le (coherent_invariant t y c).listing)
+
+    pub part : (from to : ℕ) → from ≡ line_count s → to ≡ line_count t
+        → (from ≤ to) × (to ≤ 16) × (take (to - from) (drop from t.history) ≡ added_by s (Submit e))
+    part from to f g = (
+      omega (arith, within.0),
+      omega (arith, within.1),
+      sym (drop-take from (to - from) t.history) ∙ (λ i. drop (f i) (take (sum i) t.history)),
+    )
+      where
+        sum : from + (to - from) ≡ line_count t
+        sum = omega (arith, within.0)
 
   -- every state that code can hold, every event
   pub foretold : Foretold s e

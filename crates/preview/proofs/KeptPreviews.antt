@@ -1,11 +1,10 @@
 -- A preview on a kept state: its branches, what the code comes to, and the theorems for hosts.
 use Prim.Native.Nat.{ℕ}
-use borrow.Author.Tests.{not-true, not-false}
-use mathlib.Core.Bool.{Bool, true, false, not}
+use mathlib.Core.Bool.{true, false}
 use mathlib.Core.List.{List}
 use mathlib.Core.Logic.{◌≢◌, inl, inr}
 use mathlib.Core.Path.{◌≡◌, refl, sym, ◌∙◌, ap}
-use Rattle.preview.specs.Types.{Call, Submit, Answer, Is, Made, TurnedDown, State, PreviewReply}
+use Rattle.preview.specs.Types.{Call, Submit, Answer, Is, Made, TurnedDown, CallFault, State, Counts, Result, Ok, Err}
 use Rattle.plan.specs.Faults.{answer_number}
 use Rattle.plan.proofs.Tests.{either}
 use Rattle.scheduler.specs.Answers.{call}
@@ -42,26 +41,18 @@ module _ (b : List ℕ) (e : ℕ) where
   abbrev pub OnBytes : List ℕ → ℕ → List ℕ → Type 0
   OnBytes a n x = (n ≡ preview_number_on b e) × (x ≡ counts_on b e a)
 
-  module _ (q : Bool) (test : q ≡ is_image b) (a : List ℕ) where
-    pub no_image : not q ≡ true → OnBytes a 12 a
-    no_image h =
-        let is = sym test ∙ not-true q h in
-        (sym (number_other is), sym (counts_other a is))
+  pub no_image : (a : List ℕ) → false ≡ is_image b → OnBytes a 12 a
+  no_image a h = (sym (number_other (sym h)), sym (counts_other a (sym h)))
 
-    pub on_image : not q ≡ false
-        → (s : State)
-        → s ≡ state_in b
-        → (r : PreviewReply)
-        → r ≡ preview_of s e
-        → (n : ℕ) (x : List ℕ)
-        → (n ≡ preview_number r) × (x ≡ written_by r a)
-        → OnBytes a n x
-    on_image h s said r gives n x noted =
-        let is = sym test ∙ not-false q h in
-        let same = gives ∙ ap (λ (t : State). preview_of t e) said in (
-          noted.0 ∙ ap preview_number same ∙ sym (number_image is),
-          noted.1 ∙ ap (λ (y : PreviewReply). written_by y a) same ∙ sym (counts_image a is),
-        )
+  pub on_image : (a : List ℕ) → true ≡ is_image b
+      → (s : State) → s ≡ state_in b
+      → (r : Result Counts CallFault) → r ≡ preview_of s e
+      → OnBytes a (preview_number r) (written_by r a)
+  on_image a h s said r gives =
+      let same = gives ∙ ap (λ (t : State). preview_of t e) said in (
+        ap preview_number same ∙ sym (number_image (sym h)),
+        ap (λ (y : Result Counts CallFault). written_by y a) same ∙ sym (counts_image a (sym h)),
+      )
 
 -- a preview's number is the hand-in's own
 reply_number : (s : State) (e : ℕ) → preview_number (preview_of s e) ≡ answer_number (call s (Submit e)).answer
@@ -81,9 +72,9 @@ preview_number_lem b e = elim (either (is_image b)) [
 ]
 
 -- a preview that is turned down leaves the four bytes
-reply_leaves : (r : PreviewReply) (a : List ℕ) → preview_number r ≢ 0 → written_by r a ≡ a
-reply_leaves (PreviewReply.Counted c) a n = absurd (n refl)
-reply_leaves (PreviewReply.TurnedDown f) a n = refl
+reply_leaves : (r : Result Counts CallFault) (a : List ℕ) → preview_number r ≢ 0 → written_by r a ≡ a
+reply_leaves (Ok c) a n = absurd (n refl)
+reply_leaves (Err f) a n = refl
 
 pub preview_leaves : (b : List ℕ) (e : ℕ) (a : List ℕ) → preview_number_on b e ≢ 0 → counts_on b e a ≡ a
 preview_leaves b e a n = elim (either (is_image b)) [

@@ -1,5 +1,4 @@
 -- The lemmas that the functions' proofs cite, the theorems on previews, and rows by computation.
-pub mod Counting
 pub mod Replies
 pub mod Growth
 pub mod KeptPreviews

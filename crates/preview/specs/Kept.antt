@@ -1,6 +1,6 @@
 -- A preview on a kept state, 384 bytes. Bytes that are no image are answered with 12.
 use Rattle.std.specs.Prelude.{ℕ, cond, List, [], ◌∷◌, ◌≡◌}
-use Rattle.preview.specs.Types.{Call, Submit, State, Counts, PreviewReply}
+use Rattle.preview.specs.Types.{Call, Submit, State, CallFault, Counts, Result, Ok, Err}
 use Rattle.plan.specs.Faults.{call_fault_number, answer_number}
 use Rattle.scheduler.specs.Answers.{call}
 use Rattle.scheduler.specs.Lists.{scheduler, after}
@@ -9,16 +9,16 @@ use Rattle.image.specs.Calls.{images_after}
 use Rattle.preview.specs.Preview.{preview_of, Foretold}
 
 -- a preview's number: 0 if it has counts (5.24)
-abbrev pub preview_number : PreviewReply → ℕ
-preview_number x = elim x [ PreviewReply.Counted c ↦ 0 | PreviewReply.TurnedDown f ↦ call_fault_number f ]
+abbrev pub preview_number : Result Counts CallFault → ℕ
+preview_number x = elim x [ Ok c ↦ 0 | Err f ↦ call_fault_number f ]
 
 -- the four bytes of counts: done, refused, lapsed, forced (5.24)
 abbrev pub count_bytes : Counts → List ℕ
 count_bytes c = c.done ∷ c.refused ∷ c.lapsed ∷ c.forced ∷ []
 
 -- the four bytes after a preview; if it is turned down, they stay (5.24)
-abbrev pub written_by : PreviewReply → List ℕ → List ℕ
-written_by x a = elim x [ PreviewReply.Counted c ↦ count_bytes c | PreviewReply.TurnedDown f ↦ a ]
+abbrev pub written_by : Result Counts CallFault → List ℕ → List ℕ
+written_by x a = elim x [ Ok c ↦ count_bytes c | Err f ↦ a ]
 
 -- the number of a preview on the bytes of a kept state (5.24)
 unfoldable pub preview_number_on : List ℕ → ℕ → ℕ

@@ -1,7 +1,6 @@
 -- A preview: the lines that a submit (hand in) would add to the history, counted by fate.
-use Rattle.std.specs.Prelude.{ℕ, ◌+◌, false, List, [], ◌∷◌, ◌++◌, ◌≡◌, drop}
-use Rattle.preview.specs.Types.{Fate, Done, Refused, Lapsed, Forced, Entry, Call, Submit, Is, Made, TurnedDown, State, Counts, PreviewReply}
-use Rattle.plan.specs.Base.{one_if}
+use Rattle.std.specs.Prelude.{ℕ, ◌+◌, false, List, [], ◌++◌, ◌≡◌, drop, count_by}
+use Rattle.preview.specs.Types.{Fate, Done, Refused, Lapsed, Forced, Entry, Call, Submit, Is, Made, TurnedDown, CallFault, State, Counts, Result, Ok, Err}
 use Rattle.plan.specs.Fates.{is_open, same_fate}
 use Rattle.scheduler.specs.State.{fate_of, line_count, lines}
 use Rattle.scheduler.specs.Answers.{call}
@@ -11,9 +10,8 @@ abbrev pub added_by : State → Call → List Entry
 added_by s c = drop (line_count s) (lines (call s c).state)
 
 -- how many lines say this fate (9.15)
-unfoldable pub count_of : Fate → List Entry → ℕ
-count_of x [] = 0
-count_of x (l ∷ ls) = one_if (same_fate l.fate x) + count_of x ls
+abbrev pub count_of : Fate → List Entry → ℕ
+count_of x ls = count_by (λ (l : Entry). same_fate l.fate x) ls
 
 -- the counts of lines, by fate (9.15)
 abbrev pub counts_in : List Entry → Counts
@@ -30,17 +28,17 @@ total c = c.done + c.refused + c.lapsed + c.forced
 
 -- what a preview gives: the fault if the submit would be turned down, else the counts of the lines that it would add
 -- (9.15, 10.8)
-unfoldable pub preview_of : State → ℕ → PreviewReply
+unfoldable pub preview_of : State → ℕ → Result Counts CallFault
 preview_of s e =
-    let counted = PreviewReply.Counted (counts_in (added_by s (Submit e))) in
-    elim (call s (Submit e)).answer [ TurnedDown f ↦ PreviewReply.TurnedDown f | Is x ↦ counted | Made ↦ counted ]
+    let counted = Ok (counts_in (added_by s (Submit e))) in
+    elim (call s (Submit e)).answer [ TurnedDown f ↦ Err f | Is x ↦ counted | Made ↦ counted ]
 
 -- what is true of a preview and its submit. The history after the submit is the one before it with the added lines. If
 -- the preview gives counts, they are those of the added lines. The history grows by their sum. No added line says
 -- lapsed. The submit of an event that is not open adds none (11.15)
 pub record Foretold (s : State) (e : ℕ) : Type 0 where
   pub history : lines (call s (Submit e)).state ≡ lines s ++ added_by s (Submit e)
-  pub counts : (c : Counts) → preview_of s e ≡ PreviewReply.Counted c → c ≡ counts_in (added_by s (Submit e))
+  pub counts : (c : Counts) → preview_of s e ≡ Ok c → c ≡ counts_in (added_by s (Submit e))
   pub growth : line_count (call s (Submit e)).state ≡ line_count s + total (counts_in (added_by s (Submit e)))
   pub unlapsed : count_of Lapsed (added_by s (Submit e)) ≡ 0
   pub idle : is_open (fate_of s e) ≡ false → added_by s (Submit e) ≡ []

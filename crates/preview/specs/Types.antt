@@ -11,4 +11,4 @@ pub use Rattle.plan.specs.declared.answer.Answer.TheVariants.{Is, Made, TurnedDo
 pub use Rattle.scheduler.specs.declared.state.State.{State}
 pub use Rattle.scheduler.specs.declared.reply.Reply.{Reply}
 pub use Rattle.preview.specs.declared.preview.Counts.{Counts}
-pub use Rattle.preview.specs.declared.preview.PreviewReply.{PreviewReply}
+pub use Rattle.std.specs.Prelude.{Result, Ok, Err}

@@ -1,10 +1,8 @@
 // A preview of a submit (hand in): the submit is made on a copy of the state, and the lines that it adds to the history
 // are counted by fate.
-ghost use Rattle.std.specs.Prelude.{◌≡◌, take, drop};
+ghost use Rattle.std.specs.Prelude.{◌≡◌, ◌≤◌, length};
 ghost use Rattle.preview.specs.Preview.{count_of, counts_in, preview_of};
 
-use checks::fate::is_same;
-use checks::history::lines_in;
 use plan::answer::{Answer, CallFault};
 use plan::fate::Fate;
 use plan::history::Entry;
@@ -19,51 +17,36 @@ pub struct Counts {
     pub forced: u8,
 }
 
-// What a preview gives: the counts, or why the submit would be turned down.
-#[derive(Clone, Copy)]
-pub enum PreviewReply {
-    Counted(Counts),
-    TurnedDown(CallFault),
-}
-
-// What the submit of the event would settle. The caller's state stays as it was.
-pub fn preview(state: State, event: u8) -> PreviewReply
+// What the submit of the event would settle, or why it would be turned down. The caller's state stays as it was.
+pub fn preview(state: State, event: u8) -> Result<Counts, CallFault>
     ensures { result ≡ preview_of state event }
 {
     let reply = state.submit(event);
-    let answer = reply.answer;
-    let Answer::TurnedDown(fault) = answer else {
-        let next = reply.state;
-        let history = next.history;
-        return PreviewReply::Counted(count_lines(history, state.history_len, next.history_len));
-    };
-    PreviewReply::TurnedDown(fault)
+    if let Answer::TurnedDown(fault) = reply.answer {
+        return Err(fault);
+    }
+    let from = usize::from(state.history_len);
+    let to = usize::from(reply.state.history_len);
+    Ok(count_lines(&reply.state.history[from..to]))
 }
 
-// The lines of a history from one place up to another, counted by fate.
-fn count_lines(history: [Entry; 16], from: u8, to: u8) -> Counts
-    ensures { result ≡ counts_in (drop from (take to history)) }
+// Lines of a history, counted by fate.
+fn count_lines(lines: &[Entry]) -> Counts
+    requires { length lines.now ≤ 16 }
+    ensures { result ≡ counts_in lines.now }
 {
     Counts {
-        done: count_fate(history, from, to, Fate::Done),
-        refused: count_fate(history, from, to, Fate::Refused),
-        lapsed: count_fate(history, from, to, Fate::Lapsed),
-        forced: count_fate(history, from, to, Fate::Forced),
+        done: count_fate(lines, Fate::Done),
+        refused: count_fate(lines, Fate::Refused),
+        lapsed: count_fate(lines, Fate::Lapsed),
+        forced: count_fate(lines, Fate::Forced),
     }
 }
 
 // How many of these lines say this fate.
-fn count_fate(history: [Entry; 16], from: u8, to: u8, fate: Fate) -> u8
-    ensures { result ≡ count_of fate (drop from (take to history)) }
+fn count_fate(lines: &[Entry], fate: Fate) -> u8
+    requires { length lines.now ≤ 16 }
+    ensures { result ≡ count_of fate lines.now }
 {
-    let n = lines_in(to);
-    let mut count: u8 = 0;
-    let mut i = from;
-    while i < n {
-        let line = history[i as usize];
-        let said = line.fate;
-        count += is_same(said, fate) as u8;
-        i += 1;
-    }
-    count
+    lines.iter().filter(|line| line.fate == fate).count() as u8
 }

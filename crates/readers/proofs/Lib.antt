@@ -1,2 +1,3 @@
--- Rows of what the readers answer.
+-- The lemmas that the functions' proofs cite, and rows of what the readers answer.
 pub mod Cases
+pub mod Places

@@ -1,11 +1,11 @@
-// What a caller can read of a state. An undeclared number is answered as undeclared, never as "open".
+// What a caller can read of a state. An undeclared number is answered with `None`, never as "open".
 #![tactic(auto)]
 
-ghost use Rattle.std.specs.Prelude.{◌≡◌};
+ghost use Rattle.std.specs.Prelude.{◌≡◌, None, if◌then◌else◌, nat_lt, slice_get};
 ghost use Rattle.plan.specs.Plans.{event_count, rule_count};
 ghost use Rattle.scheduler.specs.State.{line_count};
 ghost use Rattle.scheduler.specs.Runner.{held_count, broken_count};
-ghost use Rattle.readers.specs.Readers.{fate_read, event_read, rule_read, line_read, closed_read, broken_read, mark_of};
+ghost use Rattle.readers.specs.Readers.{fate_read, event_read, rule_read, line_read, closed_read, broken_read};
 
 use checks::fate::is_held;
 use plan::event::Event;
@@ -14,50 +14,16 @@ use plan::history::Entry;
 use plan::rule::Rule;
 use scheduler::state::State;
 
-#[derive(Clone, Copy)]
-pub enum FateRead {
-    Is(Fate),
-    Undeclared,
-}
-
-#[derive(Clone, Copy)]
-pub enum EventRead {
-    Is(Event),
-    Undeclared,
-}
-
-#[derive(Clone, Copy)]
-pub enum RuleRead {
-    Is(Rule),
-    Undeclared,
-}
-
-#[derive(Clone, Copy)]
-pub enum EntryRead {
-    Is(Entry),
-    Undeclared,
-}
-
-// Whether a step is closed or a rule recorded as broken.
-#[derive(Clone, Copy)]
-pub enum Mark {
-    Yes,
-    No,
-    Undeclared,
-}
-
 pub fn event_count(state: State) -> u8
     ensures { result ≡ event_count state.plan }
 {
-    let plan = state.plan;
-    plan.event_count
+    state.plan.event_count
 }
 
 pub fn rule_count(state: State) -> u8
     ensures { result ≡ rule_count state.plan }
 {
-    let plan = state.plan;
-    plan.rule_count
+    state.plan.rule_count
 }
 
 // The number of lines in the history.
@@ -71,141 +37,72 @@ pub fn line_count(state: State) -> u8
 pub fn held_count(state: State) -> usize
     ensures { result ≡ held_count state }
 {
-    let plan = state.plan;
-    let standings = state.standings;
-    let n = plan.event_count;
-    let mut count: usize = 0;
-    let mut i: u8 = 0;
-    while i < n {
-        let mut is = false;
-        if i < 16 {
-            let standing = standings[i as usize];
-            let fate = standing.fate;
-            is = is_held(fate);
-        }
-        count += is as usize;
-        i += 1;
-    }
-    count
+    let n = usize::from(state.plan.event_count);
+    state
+        .standings
+        .iter()
+        .take(n)
+        .filter(|s| is_held(s.fate))
+        .count()
 }
 
 // The number of rules that are recorded as broken.
 pub fn broken_count(state: State) -> usize
     ensures { result ≡ broken_count state }
 {
-    let plan = state.plan;
-    let broken = state.broken;
-    let n = plan.rule_count;
-    let mut count: usize = 0;
-    let mut i: u8 = 0;
-    while i < n {
-        let mut is = false;
-        if i < 16 {
-            is = broken[i as usize];
-        }
-        count += is as usize;
-        i += 1;
-    }
-    count
+    let n = usize::from(state.plan.rule_count);
+    state.broken.iter().take(n).filter(|is| **is).count()
 }
 
-pub fn read_fate(state: State, event: u8) -> FateRead
+pub fn read_fate(state: State, event: u8) -> Option<Fate>
     ensures { result ≡ fate_read state event }
 {
-    let plan = state.plan;
-    let standings = state.standings;
-    if plan.event_count <= event {
-        return FateRead::Undeclared;
-    }
-    if event < 16 {
-        let standing = standings[event as usize];
-        let fate = standing.fate;
-        FateRead::Is(fate)
-    } else {
-        FateRead::Undeclared
-    }
+    declared(&state.standings, state.plan.event_count, event).map(|s| s.fate)
 }
 
-pub fn read_event(state: State, event: u8) -> EventRead
+pub fn read_event(state: State, event: u8) -> Option<Event>
     ensures { result ≡ event_read state event }
 {
-    let plan = state.plan;
-    let events = plan.events;
-    if plan.event_count <= event {
-        return EventRead::Undeclared;
-    }
-    if event < 16 {
-        let found = events[event as usize];
-        EventRead::Is(found)
-    } else {
-        EventRead::Undeclared
-    }
+    declared(&state.plan.events, state.plan.event_count, event)
 }
 
-pub fn read_rule(state: State, rule: u8) -> RuleRead
+pub fn read_rule(state: State, rule: u8) -> Option<Rule>
     ensures { result ≡ rule_read state rule }
 {
-    let plan = state.plan;
-    let rules = plan.rules;
-    if plan.rule_count <= rule {
-        return RuleRead::Undeclared;
-    }
-    if rule < 16 {
-        let line = rules[rule as usize];
-        let found = line.rule;
-        RuleRead::Is(found)
-    } else {
-        RuleRead::Undeclared
-    }
+    declared(&state.plan.rules, state.plan.rule_count, rule).map(|line| line.rule)
 }
 
 // A line of the history.
-pub fn read_line(state: State, line: u8) -> EntryRead
+pub fn read_line(state: State, line: u8) -> Option<Entry>
     ensures { result ≡ line_read state line }
 {
-    let history = state.history;
-    let len = state.history_len;
-    if len <= line {
-        return EntryRead::Undeclared;
-    }
-    if line < 16 {
-        let entry = history[line as usize];
-        EntryRead::Is(entry)
-    } else {
-        EntryRead::Undeclared
-    }
+    declared(&state.history, state.history_len, line)
 }
 
 // Is a step closed?
-pub fn read_closed(state: State, step: u8) -> Mark
+pub fn read_closed(state: State, step: u8) -> Option<bool>
     ensures { result ≡ closed_read state step }
 {
-    let closed = state.closed;
-    if step < 8 {
-        mark_of(closed[step as usize])
-    } else {
-        Mark::Undeclared
-    }
+    place(&state.closed, step)
 }
 
 // Is a rule recorded as broken?
-pub fn read_broken(state: State, rule: u8) -> Mark
+pub fn read_broken(state: State, rule: u8) -> Option<bool>
     ensures { result ≡ broken_read state rule }
 {
-    let plan = state.plan;
-    let broken = state.broken;
-    if plan.rule_count <= rule {
-        return Mark::Undeclared;
-    }
-    if rule < 16 {
-        mark_of(broken[rule as usize])
-    } else {
-        Mark::Undeclared
-    }
+    declared(&state.broken, state.plan.rule_count, rule)
 }
 
-fn mark_of(is: bool) -> Mark
-    ensures { result ≡ mark_of is }
+// What stands in place i, if that is one of the first n places.
+fn declared<T: Copy>(places: &[T], n: u8, i: u8) -> Option<T>
+    ensures { result ≡ (if nat_lt i n then slice_get places.now i else None) }
 {
-    if is { Mark::Yes } else { Mark::No }
+    if i < n { place(places, i) } else { None }
+}
+
+// What stands in place i, if there is such a place.
+fn place<T: Copy>(places: &[T], i: u8) -> Option<T>
+    ensures { result ≡ slice_get places.now i }
+{
+    places.get(usize::from(i)).copied()
 }

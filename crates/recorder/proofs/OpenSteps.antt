@@ -3,28 +3,26 @@
 use Prim.Native.Nat.{ℕ, zero, suc, ◌+◌, ◌-◌, ◌≤◌, ◌<◌}
 use native.Mathlib.Decide.{ℕ_discrete}
 use native.Mathlib.Omega.{arith}
-use borrow.Author.Tests.{lt-leb}
-use mathlib.Core.Bool.{Bool, true, false, not}
+use mathlib.Core.Bool.{true, false}
 use mathlib.Core.List.{List, [], ◌∷◌, ◌++◌}
 use mathlib.Core.Path.{◌≡◌, refl, sym, ◌∙◌, ap, subst}
 use lib.ListN.{length, get_or, take, drop, length-drop, drop_of_length-le, take-append-drop}
 use lib.Seq.{drop-cons, drop-drop, length-take-le, take-take}
-use Rattle.plan.specs.Calls.{call_size, first_call}
-use Rattle.plan.specs.Faults.{sheet_fault_number}
-use Rattle.plan.specs.Fates.{is_open}
-use Rattle.plan.specs.Plans.{event_count}
+use Rattle.std.specs.Prelude.{Result, Ok, Err}
+use Rattle.plan.specs.Calls.{call_size, first_call, Finishes}
+use Rattle.plan.specs.Faults.{Verdict}
 use Rattle.plan.specs.Sheets.{whole, read_plan}
 use Rattle.plan.proofs.CallRecords.{more_left, finish_first}
 use Rattle.plan.proofs.AnyCalls.{narrow_back}
-use Rattle.scheduler.specs.State.{first_state, empty_state, fate_of, Sized}
+use Rattle.scheduler.specs.State.{first_state, empty_state, Sized}
 use Rattle.scheduler.specs.Coherent.{coherent}
 use Rattle.scheduler.specs.Sheet.{read_sheet, admitted}
 use Rattle.scheduler.specs.Answers.{turns_down, idle, accept, call}
 use Rattle.scheduler.proofs.Branches.{call_accept}
-use Rattle.scheduler.proofs.CallSteps.{turned_down_lem, not_turned_down, idle_same, submit_turns, submit_idle}
+use Rattle.scheduler.proofs.CallSteps.{turned_down_lem, not_turned_down, idle_same}
 use Rattle.theory.proofs.Coherence.{call_coherent, sized_call}
 use Rattle.theory.proofs.Demands.{admitted_coherent}
-use Rattle.recorder.specs.Types.{Plan, Call, Submit, Finish, Listed, SheetFault, Extra, Cut, BadKind, Full, BadStep, BadAttributes, BadNames, Unenforceable, BadWindow, Admitted, Faulty, State, Reading, Reply, RecordRead, JournalVerdict, Journal}
+use Rattle.recorder.specs.Types.{Plan, Call, Submit, Finish, Listed, Extra, State, Reading, Reply, Refusal, NoRecord, JournalFault, Journal}
 use Rattle.journal.specs.Records.{Front, Whole, Short, Other, stopped, size, front, run}
 use Rattle.journal.specs.Journals.{Opening, Opens, Broken, opened_at, open_journal}
 use Rattle.journal.specs.Calls.{calls}
@@ -35,20 +33,20 @@ use Rattle.journal.proofs.Sheets.{plan_inside, plan_before}
 use Rattle.journal.proofs.Openings.{opened_good, opened_bad, opened_further, open_whole, open_faulty}
 use Rattle.journal.proofs.CallLaws.{lawful, size_same, front_read, front_read_lem}
 use Rattle.journal.proofs.Scheduled.{plan_admitted, FrontIs, alone, followed, bad, front_is}
-use Rattle.recorder.specs.Internal.Underway.{Underway, Finishes}
+use Rattle.recorder.specs.Internal.Underway.{Underway}
 
 -- which front was read
-front_whole : (f : Front Call) (c : Call) → RecordRead.Whole c ≡ record_read f → f ≡ Whole c
+front_whole : (f : Front Call) (c : Call) → Ok c ≡ record_read f → f ≡ Whole c
 front_whole (Whole d) c h = cc
 front_whole Short c h = absurd (let z : ◌≡◌ {A = ℕ} 0 1 = cc in omega arith)
 front_whole Other c h = absurd (let z : ◌≡◌ {A = ℕ} 0 1 = cc in omega arith)
 
-front_short : (f : Front Call) → RecordRead.Short ≡ record_read f → f ≡ Short
+front_short : (f : Front Call) → Err NoRecord.Short ≡ record_read f → f ≡ Short
 front_short (Whole d) h = absurd (let z : ◌≡◌ {A = ℕ} 0 1 = cc in omega arith)
 front_short Short h = refl
 front_short Other h = absurd (let z : ◌≡◌ {A = ℕ} 0 1 = cc in omega arith)
 
-front_other : (f : Front Call) → RecordRead.Other ≡ record_read f → f ≡ Other
+front_other : (f : Front Call) → Err NoRecord.Other ≡ record_read f → f ≡ Other
 front_other (Whole d) h = absurd (let z : ◌≡◌ {A = ℕ} 0 1 = cc in omega arith)
 front_other Short h = absurd (let z : ◌≡◌ {A = ℕ} 0 1 = cc in omega arith)
 front_other Other h = refl
@@ -85,12 +83,12 @@ module _ {s t : State} {b : List ℕ} {from at : ℕ} (u : Underway s b from t a
   pub idle_here : turns_down t c ≡ false → idle t c ≡ true → Underway s b from t (at + call_size c)
   idle_here d i = subst (λ (v : State). Underway s b from v (at + call_size c)) (idle_same t c i) (made d)
 
-module _ {s t : State} {b : List ℕ} {from at : ℕ} (u : Underway s b from t at) (read : RecordRead) (is : read ≡ record_read (front calls (drop at b))) where
+module _ {s t : State} {b : List ℕ} {from at : ℕ} (u : Underway s b from t at) (read : Result Call NoRecord) (is : read ≡ record_read (front calls (drop at b))) where
   abbrev all : Opening State
   all = opened_at from (length b) (run calls s (drop from b))
 
   -- a call's record
-  module _ (c : Call) (h : read ≡ RecordRead.Whole c) where
+  module _ (c : Call) (h : read ≡ Ok c) where
     here : front calls (drop at b) ≡ Whole c
     here = front_whole (front calls (drop at b)) c (sym h ∙ is)
 
@@ -101,7 +99,7 @@ module _ {s t : State} {b : List ℕ} {from at : ℕ} (u : Underway s b from t a
     record_less n e = omega (arith, record_inside n e, size_same c, lawful.some_bytes c)
 
     -- turned down
-    pub refused : turns_down t c ≡ true → record { verdict = JournalVerdict.Broken at; state = t } ≡ journal_read all
+    pub refused : turns_down t c ≡ true → record { verdict = Err (JournalFault.Broken at); state = t } ≡ journal_read all
     refused d =
         let q = turned_down_lem t c u.passes d in
         let stops : opened_at at (length b) (run calls t (drop at b)) ≡ Broken t (at + 0) =
@@ -115,7 +113,7 @@ module _ {s t : State} {b : List ℕ} {from at : ℕ} (u : Underway s b from t a
     taken w n m d e f g = rw (e, g, f) (made u c here d)
 
   -- the end, or a cut record
-  pub ended : read ≡ RecordRead.Short → record { verdict = JournalVerdict.Opened at (length b - at); state = t } ≡ journal_read all
+  pub ended : read ≡ Err NoRecord.Short → record { verdict = Ok (record { end = at; left = length b - at }); state = t } ≡ journal_read all
   ended h =
       let stops : opened_at at (length b) (run calls t (drop at b)) ≡ Opens t (at + 0) (length b - (at + 0)) =
       ap (opened_at at (length b)) (run_short calls lawful t (drop at b) (front_short (front calls (drop at b)) (sym h ∙ is)))
@@ -124,7 +122,7 @@ module _ {s t : State} {b : List ℕ} {from at : ℕ} (u : Underway s b from t a
       ap journal_read (ap {B = Opening State} (λ (n : ℕ). Opens t n (length b - n)) sum ∙ sym stops ∙ u.same)
 
   -- a record that is no call's
-  pub bad_ended : read ≡ RecordRead.Other → record { verdict = JournalVerdict.Broken at; state = t } ≡ journal_read all
+  pub bad_ended : read ≡ Err NoRecord.Other → record { verdict = Err (JournalFault.Broken at); state = t } ≡ journal_read all
   bad_ended h =
       let stops : opened_at at (length b) (run calls t (drop at b)) ≡ Broken t (at + 0) =
       ap (opened_at at (length b)) (run_other calls lawful t (drop at b) (front_other (front calls (drop at b)) (sym h ∙ is)))
@@ -152,20 +150,14 @@ finish_front b at some h =
     let here : drop at b ≡ 18 ∷ rest = drop-cons b at 0 some ∙ ap (λ (i : ℕ). i ∷ rest) h in
     listed_front b at Finish (ap first_call here ∙ finish_first rest)
 
--- a submit of an event that is not open
-pub skip_submitted : {s t : State} {b : List ℕ} {from at : ℕ} (u : Underway s b from t at) (k x : ℕ) (o : Bool)
-    → k ≡ get_or b at 0
-    → x ≡ get_or b (at + 1) 0
+-- a submit that changes nothing
+pub skip_submitted : {s t : State} {b : List ℕ} {from at : ℕ} (u : Underway s b from t at)
+    → get_or b at 0 ≡ 16
     → at + 1 < length b
-    → k ≡ 16
-    → x < event_count t.plan
-    → o ≡ is_open (fate_of t x)
-    → o ≡ false
+    → (turns_down t (Submit (get_or b (at + 1) 0)) ≡ false) × (idle t (Submit (get_or b (at + 1) 0)) ≡ true)
     → Underway s b from t (at + 2)
-skip_submitted {s} {t} {b} {from} {at} u k x o kind number two h lt opened settled =
-    idle_here u (Submit x) (submit_front b at k x kind number two h)
-    (sym (submit_turns t x) ∙ lt-leb _ _ lt)
-    (sym (submit_idle t (Submit x) x o refl opened) ∙ ap not settled)
+skip_submitted {b = b} {at = at} u kind two h =
+    idle_here u (Submit (get_or b (at + 1) 0)) (submit_front b at _ _ refl refl two kind) h.0 h.1
 
 -- finishes in a row, each of which changes nothing
 pub one_before : (b : List ℕ) (at past : ℕ) → get_or b at 0 ≡ 18 → Finishes b (at + 1) past → Finishes b at past
@@ -201,34 +193,20 @@ verdict_of_lem h = ap (λ (x : Reading). x.verdict) h
 state_of_lem : {r q : Reading} → r ≡ q → r.state ≡ q.state
 state_of_lem h = ap (λ (x : Reading). x.state) h
 
-is_extra : (f : SheetFault) → sheet_fault_number f ≡ 8 → f ≡ Extra
-is_extra Extra h = refl
-is_extra Cut h = absurd (omega (arith, h))
-is_extra BadKind h = absurd (omega (arith, h))
-is_extra Full h = absurd (omega (arith, h))
-is_extra BadStep h = absurd (omega (arith, h))
-is_extra BadAttributes h = absurd (omega (arith, h))
-is_extra BadNames h = absurd (omega (arith, h))
-is_extra Unenforceable h = absurd (omega (arith, h))
-is_extra BadWindow h = absurd (omega (arith, h))
+not_both : {e : Refusal} → ◌≡◌ {A = Verdict} (Ok tt) (Err e) → ⊥
+not_both {e} h = let z : ◌≡◌ {A = ℕ} 0 1 = cc in omega arith
 
-not_both : {f : SheetFault} {at : ℕ} → Admitted ≡ Faulty f at → ⊥
-not_both {f} {at} h = let z : ◌≡◌ {A = ℕ} 0 1 = cc in omega arith
-
-same_fault : {f g : SheetFault} {m n : ℕ} → Faulty f m ≡ Faulty g n → f ≡ g
-same_fault {f} {g} {m} {n} h = cc
-
-same_offset : {f g : SheetFault} {m n : ℕ} → Faulty f m ≡ Faulty g n → m ≡ n
-same_offset {f} {g} {m} {n} h = cc
+same_refusal : {d e : Refusal} → ◌≡◌ {A = Verdict} (Err d) (Err e) → d ≡ e
+same_refusal {d} {e} h = cc
 
 module _ (b : List ℕ) (r : Reading) (is : r ≡ read_sheet b) where
   -- a sheet alone
-  pub sheet_alone : r.verdict ≡ Admitted
-      → record { verdict = JournalVerdict.Opened (length b) 0; state = r.state } ≡ journal_read (open_journal calls b)
+  pub sheet_alone : r.verdict ≡ Ok tt
+      → record { verdict = Ok (record { end = length b; left = 0 }); state = r.state } ≡ journal_read (open_journal calls b)
   unfolding front
   sheet_alone h = go (front_is b)
     where
-      go : FrontIs b → record { verdict = JournalVerdict.Opened (length b) 0; state = r.state } ≡ journal_read (open_journal calls b)
+      go : FrontIs b → record { verdict = Ok (record { end = length b; left = 0 }); state = r.state } ≡ journal_read (open_journal calls b)
       go (followed p at q e) = absurd (not_both (sym h ∙ verdict_of_lem (is ∙ e)))
       go (bad f at q ne e) = absurd (not_both (sym h ∙ verdict_of_lem (is ∙ e)))
       go (alone p q e) =
@@ -242,42 +220,40 @@ module _ (b : List ℕ) (r : Reading) (is : r ≡ read_sheet b) where
           ∙ opened_good n n (stopped t false) refl
           ∙ ap {B = Opening State} (λ (i : ℕ). Opens t i (n - i)) {x = n + 0} {y = n} (omega arith)
           ∙ ap {B = Opening State} (Opens t n) (omega arith) in
-          ap {B = Journal} (λ (v : State). record { verdict = JournalVerdict.Opened n 0; state = v }) (state_of_lem (is ∙ e))
+          ap {B = Journal} (λ (v : State). record { verdict = Ok (record { end = n; left = 0 }); state = v }) (state_of_lem (is ∙ e))
           ∙ ap journal_read (sym opens)
 
-  module _ (f : SheetFault) (at : ℕ) (h : r.verdict ≡ Faulty f at) where
+  module _ (d : Refusal) (h : r.verdict ≡ Err d) where
     -- number 8: a sheet with bytes behind it
-    pub sheet_followed : (n : ℕ) → n ≡ sheet_fault_number f → n ≡ 8 → (p : Plan) × (read_plan b ≡ whole p at)
-    sheet_followed n k eight = go (front_is b)
+    pub sheet_followed : d.fault ≡ Extra → (p : Plan) × (read_plan b ≡ whole p d.at)
+    sheet_followed eight = go (front_is b)
       where
-        go : FrontIs b → (p : Plan) × (read_plan b ≡ whole p at)
-        go (alone p q e) = absurd (not_both (sym (verdict_of_lem (is ∙ e)) ∙ h))
-        go (followed p m q e) = (p, q ∙ ap (whole p) (same_offset (sym (verdict_of_lem (is ∙ e)) ∙ h)))
-        go (bad g m q ne e) = absurd (ne (same_fault (sym (verdict_of_lem (is ∙ e)) ∙ h) ∙ is_extra f (sym k ∙ eight)))
-
-    -- another fault is the sheet's own
-    pub sheet_bad : (n : ℕ)
-        → n ≡ sheet_fault_number f
-        → (n ≡ 8 → ⊥)
-        → record { verdict = JournalVerdict.Unread f at; state = r.state } ≡ journal_read (open_journal calls b)
-    sheet_bad n k other = go (front_is b)
-      where
-        go : FrontIs b → record { verdict = JournalVerdict.Unread f at; state = r.state } ≡ journal_read (open_journal calls b)
+        go : FrontIs b → (p : Plan) × (read_plan b ≡ whole p d.at)
         go (alone p q e) = absurd (not_both (sym (verdict_of_lem (is ∙ e)) ∙ h))
         go (followed p m q e) =
-            absurd (other (k ∙ ap sheet_fault_number (sym (same_fault (sym (verdict_of_lem (is ∙ e)) ∙ h)))))
+            (p, q ∙ ap (λ (e : Refusal). whole p e.at) (same_refusal (sym (verdict_of_lem (is ∙ e)) ∙ h)))
         go (bad g m q ne e) =
-            let both = sym (verdict_of_lem (is ∙ e)) ∙ h in
-            ap {B = Journal} (λ (v : State). record { verdict = JournalVerdict.Unread f at; state = v }) (state_of_lem (is ∙ e))
-            ∙ ap {B = Journal} (λ (i : SheetFault). record { verdict = JournalVerdict.Unread i at; state = empty_state }) (sym (same_fault both))
-            ∙ ap {B = Journal} (λ (i : ℕ). record { verdict = JournalVerdict.Unread g i; state = empty_state }) (sym (same_offset both))
+            absurd (ne (ap (λ (e : Refusal). e.fault) (same_refusal (sym (verdict_of_lem (is ∙ e)) ∙ h)) ∙ eight))
+
+    -- another fault is the sheet's own
+    pub sheet_bad : (d.fault ≡ Extra → ⊥)
+        → record { verdict = Err (JournalFault.Unread d); state = r.state } ≡ journal_read (open_journal calls b)
+    sheet_bad other = go (front_is b)
+      where
+        go : FrontIs b → record { verdict = Err (JournalFault.Unread d); state = r.state } ≡ journal_read (open_journal calls b)
+        go (alone p q e) = absurd (not_both (sym (verdict_of_lem (is ∙ e)) ∙ h))
+        go (followed p m q e) =
+            absurd (other (ap (λ (e : Refusal). e.fault) (sym (same_refusal (sym (verdict_of_lem (is ∙ e)) ∙ h)))))
+        go (bad g m q ne e) =
+            ap {B = Journal} (λ (t : State). record { verdict = Err (JournalFault.Unread d); state = t }) (state_of_lem (is ∙ e))
+            ∙ ap {B = Journal} (λ (e : Refusal). record { verdict = Err (JournalFault.Unread e); state = empty_state }) (sym (same_refusal (sym (verdict_of_lem (is ∙ e)) ∙ h)))
             ∙ ap journal_read (sym (open_faulty calls b g m q))
 
 -- first bytes that are a sheet are the journal's own
 pub first_bytes : (b : List ℕ) (end : ℕ) (r : Reading)
     → end ≤ length b
     → r ≡ read_sheet (take end b)
-    → r.verdict ≡ Admitted
+    → r.verdict ≡ Ok tt
     → (p : Plan) × (read_plan b ≡ whole p end)
 first_bytes b end r fits is h = go (front_is (take end b))
   where

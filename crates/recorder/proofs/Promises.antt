@@ -12,6 +12,6 @@ use Rattle.recorder.proofs.AppendSteps.{was_opened, was_broken}
 
 pub journal_holds : (b : List ℕ) (r : Journal) → r ≡ journal_read (open_journal calls b) → JournalHolds b r
 journal_holds b r is = record {
-  opened = λ end left h. opens_holds b r.state end left (was_opened (open_journal calls b) r is end left h);
+  opened = λ end left h. opens_holds b r.state end left (was_opened (open_journal calls b) r is (record { end = end; left = left }) h);
   broken = λ at h. broken_holds b r.state at (was_broken (open_journal calls b) r is at h);
 }

@@ -1,24 +1,26 @@
 // Opening a journal.
-ghost use Rattle.std.specs.Prelude.{ℕ, ◌≤◌, true, ◌≡◌, drop, length};
+ghost use Rattle.std.specs.Prelude.{ℕ, ◌≤◌, true, false, ◌≡◌, drop, length};
 ghost use Rattle.plan.specs.declared.plan.Plan.{Plan};
 ghost use Rattle.plan.specs.Sheets.{whole, read_plan};
 ghost use Rattle.scheduler.specs.declared.state.State.{State};
 ghost use Rattle.scheduler.specs.Coherent.{coherent};
+ghost use Rattle.scheduler.specs.Answers.{turns_down, idle};
+ghost use Rattle.plan.specs.declared.calls.Call.TheVariants.{Submit};
 ghost use Rattle.journal.specs.Records.{run};
 ghost use Rattle.journal.specs.Journals.{opened_at, open_journal};
 ghost use Rattle.journal.specs.Calls.{calls};
-ghost use Rattle.journal.specs.Answers.{journal_read, journal_number, journal_offset, journal_left};
+ghost use Rattle.journal.specs.Answers.{journal_read, fault_number, fault_offset, journal_number, journal_offset, journal_left};
 ghost use Rattle.journal.specs.Scheduled.{JournalHolds};
-ghost use Rattle.recorder.specs.Internal.Underway.{Underway, Finishes};
+ghost use Rattle.recorder.specs.Internal.Underway.{Underway};
 
 use super::record::record_at;
 use checks::answer::sheet_fault_number;
-use checks::calls::call_size;
+use checks::calls::{call_size, skip_finishes};
 use checks::fate::is_open;
-use journal::open::{Journal, JournalVerdict};
-use journal::record::RecordRead;
-use plan::answer::Verdict;
-use plan::calls::Call;
+use journal::open::{Journal, JournalFault, Opened};
+use journal::record::NoRecord;
+use plan::answer::SheetFault;
+use plan::calls::{Call, FINISH, SUBMIT};
 use scheduler::state::State;
 use sheet::kind::body_length;
 use sheet::read::read_sheet;
@@ -31,63 +33,74 @@ pub fn open_journal(bytes: &[u8]) -> Journal
 {
     let end = sheet_end(bytes);
     let reading = read_sheet(&bytes[..end]);
-    let verdict = reading.verdict;
-    let state = reading.state;
-    match verdict {
-        Verdict::Admitted => open_records(state, bytes, end),
-        Verdict::Faulty(fault, at) => open_other(bytes),
+    match reading.verdict {
+        Ok(()) => open_records(reading.state, bytes, end),
+        Err(_) => open_other(bytes),
+    }
+}
+
+// The number of a journal that does not open.
+pub fn fault_number(fault: JournalFault) -> u8
+    ensures { result ≡ fault_number fault }
+{
+    match fault {
+        JournalFault::Broken { at } => 17,
+        JournalFault::Unread(refusal) => sheet_fault_number(refusal.fault) as u8,
+    }
+}
+
+// The offset of its fault.
+pub fn fault_offset(fault: JournalFault) -> usize
+    ensures { result ≡ fault_offset fault }
+{
+    match fault {
+        JournalFault::Broken { at } => at,
+        JournalFault::Unread(refusal) => refusal.at,
     }
 }
 
 // The number that opening gives.
-pub fn journal_number(verdict: JournalVerdict) -> u8
+pub fn journal_number(verdict: Result<Opened, JournalFault>) -> u8
     ensures { result ≡ journal_number verdict }
 {
     match verdict {
-        JournalVerdict::Opened(end, left) => 0,
-        JournalVerdict::Broken(at) => 17,
-        JournalVerdict::Unread(fault, at) => sheet_fault_number(fault) as u8,
+        Ok(_) => 0,
+        Err(fault) => fault_number(fault),
     }
 }
 
 // The offset behind the last whole record, or that of the fault.
-pub fn journal_offset(verdict: JournalVerdict) -> usize
+pub fn journal_offset(verdict: Result<Opened, JournalFault>) -> usize
     ensures { result ≡ journal_offset verdict }
 {
     match verdict {
-        JournalVerdict::Opened(end, left) => end,
-        JournalVerdict::Broken(at) => at,
-        JournalVerdict::Unread(fault, at) => at,
+        Ok(opened) => opened.end,
+        Err(fault) => fault_offset(fault),
     }
 }
 
 // How many bytes are left over.
-pub fn journal_left(verdict: JournalVerdict) -> usize
+pub fn journal_left(verdict: Result<Opened, JournalFault>) -> usize
     ensures { result ≡ journal_left verdict }
 {
     match verdict {
-        JournalVerdict::Opened(end, left) => left,
-        JournalVerdict::Broken(at) => 0,
-        JournalVerdict::Unread(fault, at) => 0,
+        Ok(opened) => opened.left,
+        Err(_) => 0,
     }
 }
 
-// Where the sheet at the front ends, by the kinds of its records alone. Nothing rests on it: if these bytes are no sheet,
-// `open_other` opens the journal.
+// Where the sheet at the front ends, by the kinds of its records alone. Nothing rests on it: if these bytes are no
+// sheet, `open_other` opens the journal.
 fn sheet_end(bytes: &[u8]) -> usize
     ensures { result ≤ length bytes.now }
 {
-    let mut at: usize = 0;
-    while at < bytes.len() {
-        let kind = bytes[at];
+    let mut at = 0;
+    while let Some(&kind) = bytes.get(at) {
+        at += 1;
         if kind == 5 {
-            return at + 1;
+            return at;
         }
-        let long = body_length(kind) as usize;
-        if bytes.len() - at <= long {
-            return bytes.len();
-        }
-        at += 1 + long;
+        at += body_length(kind) as usize;
     }
     bytes.len()
 }
@@ -97,22 +110,21 @@ fn open_other(bytes: &[u8]) -> Journal
     ensures { result ≡ journal_read (open_journal calls bytes.now) }
 {
     let reading = read_sheet(bytes);
-    let verdict = reading.verdict;
-    let state = reading.state;
-    match verdict {
-        Verdict::Admitted => Journal {
-            verdict: JournalVerdict::Opened(bytes.len(), 0),
-            state,
+    match reading.verdict {
+        Ok(()) => Journal {
+            verdict: Ok(Opened {
+                end: bytes.len(),
+                left: 0,
+            }),
+            state: reading.state,
         },
-        Verdict::Faulty(fault, at) => {
-            if sheet_fault_number(fault) == 8 {
-                return open_behind(bytes, at);
-            }
-            Journal {
-                verdict: JournalVerdict::Unread(fault, at),
-                state,
-            }
-        }
+        Err(refusal) => match refusal.fault {
+            SheetFault::Extra => open_behind(bytes, refusal.at),
+            _ => Journal {
+                verdict: Err(JournalFault::Unread(refusal)),
+                state: reading.state,
+            },
+        },
     }
 }
 
@@ -121,9 +133,7 @@ fn open_behind(bytes: &[u8], end: usize) -> Journal
     requires { (p : Plan) × (read_plan bytes.now ≡ whole p end) }
     ensures { result ≡ journal_read (open_journal calls bytes.now) }
 {
-    let reading = read_sheet(&bytes[..end]);
-    let state = reading.state;
-    open_records(state, bytes, end)
+    open_records(read_sheet(&bytes[..end]).state, bytes, end)
 }
 
 // Makes record after record from an offset on, from an admitted sheet's first state. That state is coherent, and every
@@ -133,45 +143,24 @@ fn open_records(state: State, bytes: &[u8], from: usize) -> Journal
     requires inside { from ≤ length bytes.now }
     ensures { result ≡ journal_read (opened_at from (length bytes.now) (run calls state (drop from bytes.now))) }
 {
-    let mut next = state;
+    let mut state = state;
     let mut at = from;
     loop {
-        at = skip_idle(next, bytes, at);
-        let read = record_at(bytes, at);
-        match read {
-            RecordRead::Whole(made) => {
-                if next.turns_down(made) {
-                    return Journal {
-                        verdict: JournalVerdict::Broken(at),
-                        state: next,
-                    };
-                }
-                let course = next.after_call(made);
-                let standings = course.standings;
-                let broken = course.broken;
-                let closed = course.closed;
-                let history = course.history;
-                next.standings = standings;
-                next.broken = broken;
-                next.closed = closed;
-                next.history = history;
-                next.history_len = course.history_len;
-                next.minute = course.minute;
+        at = skip_idle(state, bytes, at);
+        let verdict = match record_at(bytes, at) {
+            Ok(made) if state.turns_down(made) => Err(JournalFault::Broken { at }),
+            Ok(made) => {
+                state = state.with_course(state.after_call(made));
                 at += call_size(made);
+                continue;
             }
-            RecordRead::Short => {
-                return Journal {
-                    verdict: JournalVerdict::Opened(at, bytes.len() - at),
-                    state: next,
-                };
-            }
-            RecordRead::Other => {
-                return Journal {
-                    verdict: JournalVerdict::Broken(at),
-                    state: next,
-                };
-            }
-        }
+            Err(NoRecord::Short) => Ok(Opened {
+                end: at,
+                left: bytes.len() - at,
+            }),
+            Err(NoRecord::Other) => Err(JournalFault::Broken { at }),
+        };
+        return Journal { verdict, state };
     }
 }
 
@@ -182,51 +171,24 @@ fn skip_idle(state: State, bytes: &[u8], from: usize) -> usize
     ensures ahead { from ≤ result }
     ensures same { (s : State) (b : ℕ) → Underway s bytes.now b state from → Underway s bytes.now b state result }
 {
-    let plan = state.plan;
-    let count = plan.event_count;
-    let standings = state.standings;
     let mut at = from;
     while at + 1 < bytes.len() {
-        let kind = bytes[at];
-        if kind == 16 {
-            let number = bytes[at + 1];
-            if count <= number {
-                return at;
+        match bytes[at] {
+            SUBMIT if is_past(&state, bytes[at + 1]) => at += 2,
+            FINISH if !state.turns_down(Call::Finish) && state.is_idle(Call::Finish) => {
+                at = skip_finishes(bytes, at + 1);
             }
-            let standing = standings[number as usize];
-            let fate = standing.fate;
-            if is_open(fate) {
-                return at;
-            }
-            at += 2;
-        } else {
-            if kind != 18 {
-                return at;
-            }
-            if state.turns_down(Call::Finish) {
-                return at;
-            }
-            if !state.is_idle(Call::Finish) {
-                return at;
-            }
-            at = skip_finishes(bytes, at + 1);
+            _ => return at,
         }
     }
     at
 }
 
-// Skips the finishes that follow one another from an offset on.
-fn skip_finishes(bytes: &[u8], from: usize) -> usize
-    requires { from ≤ length bytes.now }
-    ensures inside { (from ≤ result) × (result ≤ length bytes.now) }
-    ensures finishes { Finishes bytes.now from result }
+// Whether a submit of the event is accepted and changes nothing. `turns_down` and `is_idle` say so too, but a call of
+// them copies the state.
+fn is_past(state: &State, event: u8) -> bool
+    requires { coherent state.now ≡ true }
+    ensures { result ≡ true → (turns_down state.now (Submit event) ≡ false) × (idle state.now (Submit event) ≡ true) }
 {
-    let mut at = from;
-    while at < bytes.len() {
-        if bytes[at] != 18 {
-            return at;
-        }
-        at += 1;
-    }
-    at
+    event < state.plan.event_count && !is_open(state.standings[event as usize].fate)
 }

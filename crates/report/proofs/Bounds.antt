@@ -9,23 +9,25 @@ use lib.ListN.{length, get_or, take, drop, length-append, take-append-drop}
 use mir.Val.{Val}
 use denote.Laws.{Is}
 use denote.Array.{each}
-use denote.Enum.Declared as enum
 use denote.Shadow.{shadow}
 use denote.Struct.Declared.{row}
+use denote.Struct.Field.{Field}
 use Rattle.plan.proofs.Tests.{count_le}
-use Rattle.report.specs.Types.{SheetFault, Cut, BadKind, Full, BadStep, BadAttributes, BadNames, Unenforceable, Extra, BadWindow, Outcome, Verdict, Admitted, Faulty, Fate, Open, Held, Done, Refused, Lapsed, Forced, Entry}
+use Rattle.report.specs.Types.{SheetFault, Cut, BadKind, Full, BadStep, BadAttributes, BadNames, Unenforceable, Extra, BadWindow, Outcome, Result, Ok, Err, Refusal, Fate, Open, Held, Done, Refused, Lapsed, Forced, Entry}
 use Rattle.plan.specs.Plans.{event_count, rule_count}
 use Rattle.scheduler.specs.State.{line_count, lines, fate_of, broken_at}
 use Rattle.plan.specs.Histories.{blank_entry}
 use Rattle.plan.specs.Fates.{is_held}
 use Rattle.plan.specs.Faults.{sheet_fault_number}
 use Rattle.scheduler.specs.Runner.{held_count, broken_count, decimal, line, history_lines, report}
-use Rattle.report.specs.Internal.Texts.{fate_end, entry_line, head, tail, state_text, fault_line}
+use Rattle.report.specs.Internal.Texts.{fate_end, entry_line, head, tail, state_text, refusal_line}
 use Rattle.report.proofs.Digits.{length_one, length_more}
-use Rattle.report.proofs.Splits.{events_lead, rules_lead, held_lead, broken_lead, calls_lead, refused_lead, at_lead, entry_split, head_split, tail_split, state_split, fault_is, lines_append, report_admitted, report_faulty}
+use Rattle.report.proofs.Splits.{events_lead, rules_lead, held_lead, broken_lead, calls_lead, refused_lead, at_lead, entry_split, head_split, tail_split, state_split, refusal_is, lines_append, report_admitted, report_refused}
 use Rattle.scheduler.specs.contracts.reply.Outcome as the-outcome
-use Rattle.plan.specs.contracts.answer.Verdict as the-verdict
 use Rattle.plan.specs.contracts.history.Entry as the-entry
+use Rattle.plan.specs.contracts.answer.Refusal as the-refusal
+use Rattle.std.specs.contracts.result.Result as the-result
+use denote.Builtin.{unit}
 
 -- an outcome's numbers fit their types
 pub record Small (o : Outcome) : Type 0 where
@@ -34,7 +36,7 @@ pub record Small (o : Outcome) : Type 0 where
   pub entries : (i : ℕ) → (get_or o.state.history i blank_entry).event < 256
   pub places : length o.state.history ≡ 16
   pub refused : o.refused < 18446744073709551616
-  pub offset : (f : SheetFault) (at : ℕ) → o.verdict ≡ Faulty f at → at < 18446744073709551616
+  pub offset : (e : Refusal) → o.verdict ≡ Err e → e.at < 18446744073709551616
 
 -- what owning the entries of a history tells
 entries_small : (h : List Entry) (us : List Val)
@@ -47,15 +49,18 @@ entries_small (e ∷ h) (u ∷ us) g zero = g.0.1.1.0.1
 entries_small (e ∷ h) (u ∷ us) g (suc i) = entries_small h us g.1 i
 
 -- what owning a verdict tells
-offset_small : (v : Verdict) {vs : List Val}
-    → Is (enum.row the-verdict.the_type) v vs
-    → (f : SheetFault) (at : ℕ)
-    → v ≡ Faulty f at
-    → at < 18446744073709551616
-offset_small Admitted g f at e = absurd (let z : ◌≡◌ {A = ℕ} 0 1 = cc in omega arith)
-offset_small (Faulty k n) g f at e =
-    let same : n ≡ at = cc in
-    omega (arith, g.1.1.1.1.1.0.1)
+abbrev verdict : Field
+verdict = the-result.the_field unit the-refusal.the_row
+
+offset_small : (v : Result Unit Refusal) (w : List Val)
+    → shadow (verdict.row.own_val (verdict.into v) w)
+    → (e : Refusal)
+    → v ≡ Err e
+    → e.at < 18446744073709551616
+offset_small (Ok u) w g e h = absurd (cc)
+offset_small (Err k) w g e h =
+    let same : k ≡ e = cc in
+    omega (arith, g.1.1.1.1.0.1.1.1.0.1, ap (λ (r : Refusal). r.at) same)
 
 -- what owning an outcome tells
 pub small : (o : Outcome) {vs : List Val} → Is (row the-outcome.the_type) o vs → Small o
@@ -65,7 +70,7 @@ small o g = let s = g.1.1.1.0 in record {
   entries = entries_small o.state.history s.1.1.1.1.1.1.0.0 s.1.1.1.1.1.1.0.1.1;
   places = s.1.1.1.1.1.1.0.1.0.1;
   refused = g.1.1.1.1.0.1;
-  offset = offset_small o.verdict g.1.1.0;
+  offset = offset_small o.verdict _ g.1.1.0;
 }
 
 -- 10 to the power of k + 1
@@ -148,15 +153,15 @@ tail_few held broken refused h k r =
       twenty refused r,
     )
 
-fault_line_few : (f : SheetFault) (at : ℕ) → at < 18446744073709551616 → length (fault_line f at) ≤ 36
-fault_line_few f at h =
-    let number = sheet_fault_number f in
+refusal_few : (e : Refusal) → e.at < 18446744073709551616 → length (refusal_line e) ≤ 36
+refusal_few e h =
+    let number = sheet_fault_number e.fault in
     omega (
       arith,
-      ap length (fault_is f at number refl) ∙ length-append (refused_lead ++ decimal number) (line (at_lead ++ decimal at)),
-      line_length at_lead at,
-      three number (fault_few f),
-      twenty at h,
+      ap length (refusal_is e number refl) ∙ length-append (refused_lead ++ decimal number) (line (at_lead ++ decimal e.at)),
+      line_length at_lead e.at,
+      three number (fault_few e.fault),
+      twenty e.at h,
     )
 
 module _ (o : Outcome) (fits : Small o) where
@@ -193,9 +198,9 @@ module _ (o : Outcome) (fits : Small o) where
   pub report_within : length (report o) ≤ 268
   report_within = go o.verdict refl
     where
-      go : (v : Verdict) → o.verdict ≡ v → length (report o) ≤ 268
-      go Admitted e = rw (report_admitted o e) state_few
-      go (Faulty f at) e = omega (arith, ap length (report_faulty o f at e), fault_line_few f at (fits.offset f at e))
+      go : (v : Result Unit Refusal) → o.verdict ≡ v → length (report o) ≤ 268
+      go (Ok u) h = rw (report_admitted o h) state_few
+      go (Err e) h = omega (arith, ap length (report_refused o e h), refusal_few e (fits.offset e h))
 
   -- the page has room
   pub report_short : length (report o) ≤ 320

@@ -14,6 +14,9 @@ pub decimal_one : (x : ℕ) → x < 10 → decimal x ≡ (48 + x) ∷ []
 unfolding decimal digits
 decimal_one x h = rw (add-one x, lt-ltb x 10 h, digits)
 
+pub decimal_low : (x : ℕ) → x < 10 → decimal x ≡ (48 + x % 10) ∷ []
+decimal_low x h = let same : x ≡ x % 10 = omega arith in decimal_one x h ∙ ap (λ (d : ℕ). (48 + d) ∷ []) same
+
 pub decimal_more : (x : ℕ) → 10 ≤ x → decimal x ≡ decimal (x / 10) ++ ((48 + x % 10) ∷ [])
 unfolding decimal digits
 decimal_more x h = rw (add-one x, le-ltb x 10 h, digits, digits_enough x (x / 10) (omega arith), decimal)

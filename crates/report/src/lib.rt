@@ -8,7 +8,7 @@ ghost use Rattle.std.specs.Prelude.{◌≤◌, ◌≡◌, length};
 ghost use Rattle.scheduler.specs.Runner.{report};
 ghost use Rattle.pages.specs.Filled.{filled};
 
-use pages::{MOST, fill};
+use pages::{Page, fill};
 use scheduler::reply::Outcome;
 use text::put_report;
 
@@ -18,8 +18,9 @@ pub fn write_report(outcome: Outcome, out: &mut [u8]) -> usize
     ensures bytes { out.new ≡ filled (report outcome) out.old }
     ensures short { result ≤ 320 }
 {
-    let mut page = [0u8; MOST];
-    let len = put_report(&mut page, outcome);
-    fill(&page[..len], out);
-    len
+    let mut page = Page::new();
+    put_report(&mut page, outcome);
+    let text = page.text();
+    fill(text, out);
+    text.len()
 }

@@ -2,215 +2,55 @@
 // gives. The gate compares this with the file `stdout`.
 #![tactic(auto)]
 
-use checks::answer::{call_fault_number, sheet_fault_number};
-use plan::answer::{Answer, Verdict};
+mod show;
+
+use checks::answer::sheet_fault_number;
 use plan::calls::Call;
 use plan::fate::{Fate, Standing};
-use plan::rule::Rule;
-use readers::{EntryRead, EventRead, FateRead, Mark, RuleRead};
+use readers::{read_broken, read_closed, read_event, read_fate, read_line, read_rule};
 use scheduler::order::Found;
 use scheduler::reply::Reply;
 use scheduler::state::State;
+use sheet::read::read_sheet;
+use show::Shown;
 use std::io;
 
-// What reading a sheet gives.
-fn show_reading<R: Print>(rt: &R, name: &str, sheet: &[u8]) -> io::Result<()> {
-    let reading = sheet::read::read_sheet(sheet);
-    let verdict = reading.verdict;
-    match verdict {
-        Verdict::Admitted => println!(rt; "{name} admitted"),
-        Verdict::Faulty(fault, at) => {
-            let number = sheet_fault_number(fault);
-            println!(rt; "{name} refused {number} at {at}")
-        }
-    }
-}
+// Two events that can be delayed; the first needs the second and comes before it.
+const TWO: &[u8] = b"\x01\x00\x06\x01\x01\x06\x02\x00\x01\x03\x00\x01\x05";
 
-// Every event held.
-fn all_held(state: State) -> State {
-    let mut next = state;
-    next.standings = [Standing { fate: Fate::Held }; 16];
-    next
-}
+// Two events that can be forced; the first needs the second.
+const NEEDS: &[u8] = b"\x01\x00\x01\x01\x01\x01\x03\x00\x01\x05";
 
-// An order's event in a place, if the order is so long, and whether it was open.
-fn show_event<R: Print>(rt: &R, found: Found, place: u8) -> io::Result<()> {
-    let events = found.events;
-    let opened = found.opened;
-    if place < found.len {
-        if place < 6 {
-            let event = events[place as usize];
-            print!(rt; " {event}")?;
-            if opened[place as usize] {
-                print!(rt; " (open)")?;
-            }
-        }
-    }
-    Ok(())
-}
+// Events of one step that can be delayed, each of which needs the next: six in a ring, seven in a ring, seven in a row.
+const RING_OF_SIX: &[u8] =
+    b"\x01\x00\x06\x01\x00\x06\x01\x00\x06\x01\x00\x06\x01\x00\x06\x01\x00\x06\
+    \x03\x00\x01\x03\x01\x02\x03\x02\x03\x03\x03\x04\x03\x04\x05\x03\x05\x00\x05";
 
-// What a search has found.
-fn show_found<R: Print>(rt: &R, found: Found) -> io::Result<()> {
-    if !found.ok {
-        return println!(rt; " none");
-    }
-    show_event(rt, found, 0)?;
-    show_event(rt, found, 1)?;
-    show_event(rt, found, 2)?;
-    show_event(rt, found, 3)?;
-    show_event(rt, found, 4)?;
-    show_event(rt, found, 5)?;
-    println!(rt)
-}
+const RING_OF_SEVEN: &[u8] =
+    b"\x01\x00\x06\x01\x00\x06\x01\x00\x06\x01\x00\x06\x01\x00\x06\x01\x00\x06\x01\x00\x06\
+    \x03\x00\x01\x03\x01\x02\x03\x02\x03\x03\x03\x04\x03\x04\x05\x03\x05\x06\x03\x06\x00\x05";
 
-// The chosen order for an event of a sheet whose events are all held.
-fn show_order<R: Print>(rt: &R, name: &str, sheet: &[u8], event: u8) -> io::Result<()> {
-    print!(rt; "{name}")?;
-    let reading = sheet::read::read_sheet(sheet);
-    let state = all_held(reading.state);
-    show_found(rt, state.find_order(event))
-}
+const ROW_OF_SEVEN: &[u8] =
+    b"\x01\x00\x06\x01\x00\x06\x01\x00\x06\x01\x00\x06\x01\x00\x06\x01\x00\x06\x01\x00\x06\
+    \x03\x00\x01\x03\x01\x02\x03\x02\x03\x03\x03\x04\x03\x04\x05\x03\x05\x06\x05";
 
-// The chosen order for an event of a sheet's first state, in which all are open.
-fn show_first_order<R: Print>(rt: &R, name: &str, sheet: &[u8], event: u8) -> io::Result<()> {
-    print!(rt; "{name}")?;
-    let reading = sheet::read::read_sheet(sheet);
-    let state = reading.state;
-    show_found(rt, state.find_order(event))
-}
-
-fn show_fate<R: Print>(rt: &R, fate: Fate) -> io::Result<()> {
-    match fate {
-        Fate::Open => println!(rt; " open"),
-        Fate::Held => println!(rt; " held"),
-        Fate::Done => println!(rt; " done"),
-        Fate::Refused => println!(rt; " refused"),
-        Fate::Lapsed => println!(rt; " lapsed"),
-        Fate::Forced => println!(rt; " forced"),
-    }
-}
-
-// What a call answers.
-fn show_answer<R: Print>(rt: &R, answer: Answer) -> io::Result<()> {
-    match answer {
-        Answer::Is(fate) => show_fate(rt, fate),
-        Answer::Made => println!(rt; " made"),
-        Answer::TurnedDown(fault) => {
-            let number = call_fault_number(fault);
-            println!(rt; " turned down by {number}")
-        }
-    }
-}
-
-// Shows a call's answer and hands on the state after it.
-fn after_call<R: Print>(rt: &R, call: &str, reply: Reply) -> io::Result<State> {
-    let answer = reply.answer;
-    let state = reply.state;
-    print!(rt; "{call}")?;
-    show_answer(rt, answer)?;
-    Ok(state)
-}
-
-// A number after a word.
-fn show_number<R: Print>(rt: &R, word: &str, x: u64) -> io::Result<()> {
-    print!(rt; "{word}{x}")
-}
-
-fn show_mark<R: Print>(rt: &R, word: &str, mark: Mark) -> io::Result<()> {
-    match mark {
-        Mark::Yes => print!(rt; "{word} yes"),
-        Mark::No => print!(rt; "{word} no"),
-        Mark::Undeclared => print!(rt; "{word} undeclared"),
-    }
-}
-
-fn show_event_read<R: Print>(rt: &R, read: EventRead) -> io::Result<()> {
-    match read {
-        EventRead::Is(event) => {
-            show_number(rt, " step ", event.step as u64)?;
-            show_number(rt, " attributes ", event.attributes as u64)
-        }
-        EventRead::Undeclared => print!(rt; " undeclared"),
-    }
-}
-
-fn show_fate_read<R: Print>(rt: &R, read: FateRead) -> io::Result<()> {
-    match read {
-        FateRead::Is(fate) => show_fate(rt, fate),
-        FateRead::Undeclared => println!(rt; " undeclared"),
-    }
-}
-
-fn show_rule_read<R: Print>(rt: &R, read: RuleRead) -> io::Result<()> {
-    match read {
-        RuleRead::Is(rule) => match rule {
-            Rule::Order(a, b) => {
-                show_number(rt, " order ", a as u64)?;
-                show_number(rt, " ", b as u64)
-            }
-            Rule::Need(a, b) => {
-                show_number(rt, " need ", a as u64)?;
-                show_number(rt, " ", b as u64)
-            }
-            Rule::Conditional(a, b, c) => {
-                show_number(rt, " conditional ", a as u64)?;
-                show_number(rt, " ", b as u64)?;
-                show_number(rt, " ", c as u64)
-            }
-        },
-        RuleRead::Undeclared => print!(rt; " undeclared"),
-    }
-}
-
-fn show_line_read<R: Print>(rt: &R, read: EntryRead) -> io::Result<()> {
-    match read {
-        EntryRead::Is(entry) => {
-            let fate = entry.fate;
-            show_number(rt, " event ", entry.event as u64)?;
-            show_fate(rt, fate)
-        }
-        EntryRead::Undeclared => println!(rt; " undeclared"),
-    }
-}
-
-// What the readers of a state answer for a number.
-fn show_number_read<R: Print>(rt: &R, state: State, i: u8) -> io::Result<()> {
-    show_number(rt, "event ", i as u64)?;
-    show_event_read(rt, readers::read_event(state, i))?;
-    show_fate_read(rt, readers::read_fate(state, i))?;
-    show_number(rt, "rule ", i as u64)?;
-    show_rule_read(rt, readers::read_rule(state, i))?;
-    show_mark(rt, " broken", readers::read_broken(state, i))?;
-    show_number(rt, " step ", i as u64)?;
-    show_mark(rt, " closed", readers::read_closed(state, i))?;
-    show_number(rt, " line ", i as u64)?;
-    show_line_read(rt, readers::read_line(state, i))
-}
-
-// The counts of a state, and what its readers answer for 0, 1 and 2.
-fn show_state<R: Print>(rt: &R, state: State) -> io::Result<()> {
-    show_number(rt, "events ", readers::event_count(state) as u64)?;
-    show_number(rt, " rules ", readers::rule_count(state) as u64)?;
-    show_number(rt, " lines ", readers::line_count(state) as u64)?;
-    show_number(rt, " held ", readers::held_count(state) as u64)?;
-    show_number(rt, " broken ", readers::broken_count(state) as u64)?;
-    println!(rt)?;
-    show_number_read(rt, state, 0)?;
-    show_number_read(rt, state, 1)?;
-    show_number_read(rt, state, 2)
+fn main(rt: HostRuntime) -> io::Result<()> {
+    let two = read_sheet(TWO).state;
+    show_calls(&rt, two)?;
+    show_effects(&rt, two)?;
+    show_readings(&rt)?;
+    show_orders(&rt)
 }
 
 // Calls of each sort on one sheet, each on the state that the one before gave, and one on a state that was changed by
 // hand.
-fn show_calls<R: Print>(rt: &R, sheet: &[u8]) -> io::Result<()> {
-    let reading = sheet::read::read_sheet(sheet);
-    let first = reading.state;
+fn show_calls<R: Print>(rt: &R, first: State) -> io::Result<()> {
     let mut state = after_call(rt, "hand in 0:", first.submit(0))?;
     state = after_call(rt, "hand in 1:", state.submit(1))?;
     state = after_call(rt, "hand in 2:", state.submit(2))?;
     state = after_call(rt, "close step 0:", state.close_step(0))?;
     state = after_call(rt, "close step 0:", state.close_step(0))?;
-    after_call(rt, "wind up:", state.finish())?;
+    state = after_call(rt, "wind up:", state.finish())?;
     state = after_call(rt, "close step 1, as data:", state.call(Call::Close(1)))?;
     show_state(rt, state)?;
     let mut torn = first;
@@ -219,87 +59,133 @@ fn show_calls<R: Print>(rt: &R, sheet: &[u8]) -> io::Result<()> {
     Ok(())
 }
 
+// Shows a call's answer and hands on the state after it.
+fn after_call<R: Print>(rt: &R, call: &str, reply: Reply) -> io::Result<State> {
+    println!(rt; "{call} {}", Shown(reply.answer))?;
+    Ok(reply.state)
+}
+
+// The counts of a state, and what its readers answer for 0, 1 and 2.
+fn show_state<R: Print>(rt: &R, state: State) -> io::Result<()> {
+    let events = readers::event_count(state);
+    let rules = readers::rule_count(state);
+    let lines = readers::line_count(state);
+    let held = readers::held_count(state);
+    let broken = readers::broken_count(state);
+    println!(rt; "events {events} rules {rules} lines {lines} held {held} broken {broken}")?;
+    for i in 0..3 {
+        show_number(rt, state, i)?;
+    }
+    Ok(())
+}
+
+// What the readers of a state answer for a number.
+fn show_number<R: Print>(rt: &R, state: State, i: u8) -> io::Result<()> {
+    let event = Shown(read_event(state, i));
+    let fate = Shown(read_fate(state, i));
+    println!(rt; "event {i} {event} {fate}")?;
+    let rule = Shown(read_rule(state, i));
+    let broken = Shown(read_broken(state, i));
+    let closed = Shown(read_closed(state, i));
+    let line = Shown(read_line(state, i));
+    println!(rt; "rule {i} {rule} broken {broken} step {i} closed {closed} line {i} {line}")
+}
+
+// The calls of a list on a sheet's first state, and once its steps 0 and 1 are closed.
+fn show_effects<R: Print>(rt: &R, first: State) -> io::Result<()> {
+    for (name, made) in [
+        ("in a list, hand in 0:", Call::Submit(0)),
+        ("in a list, hand in 9:", Call::Submit(9)),
+        ("in a list, close step 1:", Call::Close(1)),
+        ("in a list, wind up:", Call::Finish),
+    ] {
+        show_effect(rt, name, first, made)?;
+    }
+    let closed = taken(taken(first, Call::Close(0)), Call::Close(1));
+    for (name, made) in [
+        ("both closed, hand in 0:", Call::Submit(0)),
+        ("both closed, close step 0:", Call::Close(0)),
+        ("both closed, wind up:", Call::Finish),
+    ] {
+        show_effect(rt, name, closed, made)?;
+    }
+    Ok(())
+}
+
 // What a call does in a list, where number 12 is not tested: turned down, idle, or so many lines of history after it.
 fn show_effect<R: Print>(rt: &R, name: &str, state: State, made: Call) -> io::Result<()> {
-    print!(rt; "{name}")?;
     if state.turns_down(made) {
-        return println!(rt; " turned down");
+        println!(rt; "{name} turned down")
+    } else if state.is_idle(made) {
+        println!(rt; "{name} idle")
+    } else {
+        let lines = readers::line_count(taken(state, made));
+        println!(rt; "{name} taken, lines {lines}")
     }
-    if state.is_idle(made) {
-        return println!(rt; " idle");
-    }
-    let after = taken(state, made);
-    show_number(rt, " taken, lines ", readers::line_count(after) as u64)?;
-    println!(rt)
 }
 
 // The state after an accepted call.
 fn taken(state: State, made: Call) -> State {
-    let course = state.after_call(made);
-    state.with_course(course)
+    state.with_course(state.after_call(made))
 }
 
-// The calls of a list on a sheet's first state, and once its steps 0 and 1 are closed.
-fn show_effects<R: Print>(rt: &R, sheet: &[u8]) -> io::Result<()> {
-    let reading = sheet::read::read_sheet(sheet);
-    let first = reading.state;
-    show_effect(rt, "in a list, hand in 0:", first, Call::Submit(0))?;
-    show_effect(rt, "in a list, hand in 9:", first, Call::Submit(9))?;
-    show_effect(rt, "in a list, close step 1:", first, Call::Close(1))?;
-    show_effect(rt, "in a list, wind up:", first, Call::Finish)?;
-    let once = taken(first, Call::Close(0));
-    let closed = taken(once, Call::Close(1));
-    show_effect(rt, "both closed, hand in 0:", closed, Call::Submit(0))?;
-    show_effect(rt, "both closed, close step 0:", closed, Call::Close(0))?;
-    show_effect(rt, "both closed, wind up:", closed, Call::Finish)
+// What reading some sheets gives.
+fn show_readings<R: Print>(rt: &R) -> io::Result<()> {
+    for (name, sheet) in [
+        ("A", TWO),
+        ("F", b"\x01\x00\x01\x01\x01\x06\x03\x00\x01\x05"),
+        ("no bytes", b""),
+        ("end", b"\x05"),
+        ("end twice", b"\x05\x05"),
+        ("delayable alone", b"\x01\x00\x04\x05"),
+        ("17 events", b"\x06\x00\x06\x01\x06\x02\x06\x03\x01\x09\x09"),
+    ] {
+        match read_sheet(sheet).verdict {
+            Ok(()) => println!(rt; "{name} admitted")?,
+            Err(refusal) => {
+                let number = sheet_fault_number(refusal.fault);
+                println!(rt; "{name} refused {number} at {}", refusal.at)?
+            }
+        }
+    }
+    Ok(())
 }
 
-fn main(rt: HostRuntime) -> io::Result<()> {
-    show_calls(&rt, b"\x01\x00\x06\x01\x01\x06\x02\x00\x01\x03\x00\x01\x05")?;
-    show_effects(&rt, b"\x01\x00\x06\x01\x01\x06\x02\x00\x01\x03\x00\x01\x05")?;
-    show_reading(
-        &rt,
-        "A",
-        b"\x01\x00\x06\x01\x01\x06\x02\x00\x01\x03\x00\x01\x05",
-    )?;
-    show_reading(&rt, "F", b"\x01\x00\x01\x01\x01\x06\x03\x00\x01\x05")?;
-    show_reading(&rt, "no bytes", b"")?;
-    show_reading(&rt, "end", b"\x05")?;
-    show_reading(&rt, "end twice", b"\x05\x05")?;
-    show_reading(&rt, "delayable alone", b"\x01\x00\x04\x05")?;
-    show_reading(
-        &rt,
-        "17 events",
-        b"\x06\x00\x06\x01\x06\x02\x06\x03\x01\x09\x09",
-    )?;
-    show_order(
-        &rt,
-        "J, a ring of six:",
-        b"\x01\x00\x06\x01\x00\x06\x01\x00\x06\x01\x00\x06\x01\x00\x06\x01\x00\x06\x03\x00\x01\x03\x01\x02\x03\x02\x03\x03\x03\x04\x03\x04\x05\x03\x05\x00\x05",
-        0,
-    )?;
-    show_order(
-        &rt,
-        "J, a ring of seven:",
-        b"\x01\x00\x06\x01\x00\x06\x01\x00\x06\x01\x00\x06\x01\x00\x06\x01\x00\x06\x01\x00\x06\x03\x00\x01\x03\x01\x02\x03\x02\x03\x03\x03\x04\x03\x04\x05\x03\x05\x06\x03\x06\x00\x05",
-        0,
-    )?;
-    show_order(
-        &rt,
-        "K, 0:",
-        b"\x01\x00\x06\x01\x00\x06\x01\x00\x06\x01\x00\x06\x01\x00\x06\x01\x00\x06\x01\x00\x06\x03\x00\x01\x03\x01\x02\x03\x02\x03\x03\x03\x04\x03\x04\x05\x03\x05\x06\x05",
-        0,
-    )?;
-    show_order(
-        &rt,
-        "K, 1:",
-        b"\x01\x00\x06\x01\x00\x06\x01\x00\x06\x01\x00\x06\x01\x00\x06\x01\x00\x06\x01\x00\x06\x03\x00\x01\x03\x01\x02\x03\x02\x03\x03\x03\x04\x03\x04\x05\x03\x05\x06\x05",
-        1,
-    )?;
-    show_first_order(
-        &rt,
-        "D, all open:",
-        b"\x01\x00\x01\x01\x01\x01\x03\x00\x01\x05",
-        0,
-    )
+// The chosen order for an event of some sheets: with every event held, and with every event open.
+fn show_orders<R: Print>(rt: &R) -> io::Result<()> {
+    for (name, sheet, event) in [
+        ("J, a ring of six:", RING_OF_SIX, 0),
+        ("J, a ring of seven:", RING_OF_SEVEN, 0),
+        ("K, 0:", ROW_OF_SEVEN, 0),
+        ("K, 1:", ROW_OF_SEVEN, 1),
+    ] {
+        show_order(rt, name, all_held(read_sheet(sheet).state), event)?;
+    }
+    show_order(rt, "D, all open:", read_sheet(NEEDS).state, 0)
+}
+
+// Every event held.
+fn all_held(state: State) -> State {
+    State {
+        standings: [Standing { fate: Fate::Held }; 16],
+        ..state
+    }
+}
+
+// The chosen order for an event, and which of its events were open.
+fn show_order<R: Print>(rt: &R, name: &str, state: State, event: u8) -> io::Result<()> {
+    print!(rt; "{name}")?;
+    match state.find_order(event) {
+        Some(found) => show_found(rt, found),
+        None => println!(rt; " none"),
+    }
+}
+
+// The events of an order.
+fn show_found<R: Print>(rt: &R, found: Found) -> io::Result<()> {
+    for place in &found.places[..found.len.min(6) as usize] {
+        let opened = if place.opened { " (open)" } else { "" };
+        print!(rt; " {}{opened}", place.event)?;
+    }
+    println!(rt)
 }

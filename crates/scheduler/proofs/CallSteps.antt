@@ -1,9 +1,10 @@
 -- What the code of the calls says at each of its ends.
 use Prim.Native.Nat.{ℕ, ◌≤◌, ◌<◌}
-use borrow.Author.Tests.{not-true, not-false, lt-ltb, le-ltb, ltb-true, ltb-false, le-leb, lt-leb, leb-true, leb-false}
+use borrow.Author.Tests.{not-true, lt-ltb, le-ltb, ltb-true, ltb-false, le-leb, lt-leb, leb-true, leb-false}
 use mathlib.Core.Bool.{Bool, true, false, not, ◌||◌}
 use mathlib.Core.List.{[], ◌∷◌}
-use mathlib.Core.Option.{Option, none, some}
+use Rattle.std.specs.declared.option.Option.{Option}
+use Rattle.std.specs.declared.option.Option.TheVariants.{None as none, Some as some}
 use mathlib.Core.Path.{◌≡◌, refl, sym, ◌∙◌, ap}
 use lib.Dec.{ltb, leb}
 use lib.ListN.{take, get_or}
@@ -21,46 +22,30 @@ use Rattle.scheduler.specs.Answers.{unclosed_at, call_rows, turns_down, call_fau
 use Rattle.scheduler.specs.Internal.Marked.{settle_all}
 use Rattle.plan.proofs.Arrays.{read_in}
 use Rattle.plan.proofs.Tests.{clash, any_false}
-use Rattle.scheduler.proofs.Laws.{fate_past}
 use Rattle.plan.proofs.Tables.{row_hit, row_miss, rows_none}
 use Rattle.scheduler.proofs.SettleLoops.{order_found, order_missing, finish_unheld}
 use Rattle.scheduler.proofs.Branches.{decide_order, decide_refuse, decide_alone, submit_same, turns_some, turns_none, take_fault, take_accept, call_fault_lem, call_accept}
 
--- what a test says, negated in the code
-module _ (is b : Bool) (same : is ≡ b) where
-  pub says_no : not is ≡ true → b ≡ false
-  says_no h = sym same ∙ not-true is h
-
-  pub says_yes : not is ≡ false → b ≡ true
-  says_yes h = sym same ∙ not-false is h
-
 -- deciding an event, by what the search for an order gives
-module _ (s : State) (e : ℕ) (r : Found) (same : r ≡ found_order s (chosen s e)) where
+module _ (s : State) (e : ℕ) where
   -- an order is found, and done
-  pub decide_found : (t : State)
-      → r.ok ≡ true
-      → t ≡ settle_all s (take r.len r.events) (take r.len r.opened)
-      → t ≡ decide s e
-  decide_found t ok done =
-      let f = order_found s e r same ok in
-      done ∙ f.does ∙ sym (decide_order s e f.order f.is)
+  pub decide_found : (r : Found)
+      → some r ≡ found_order s (chosen s e)
+      → settle_all s (take r.len r.places) ≡ decide s e
+  decide_found r same = let f = order_found s e r same in f.does ∙ sym (decide_order s e f.order f.is)
 
-  module _ (t : State) (is : Bool) (missing : r.ok ≡ false) (test : is ≡ rejectable s.plan e) where
-    -- none is found, and the event is rejectable
-    pub decide_refused : is ≡ true → t ≡ settle_as Refused s e → t ≡ decide s e
-    decide_refused h done = done ∙ sym (decide_refuse s e (order_missing s e r same missing) (sym test ∙ h))
+  -- none is found: the event is refused if it can be, else done alone
+  module _ (missing : none ≡ found_order s (chosen s e)) where
+    pub decide_refused : rejectable s.plan e ≡ true → settle_as Refused s e ≡ decide s e
+    decide_refused can = sym (decide_refuse s e (order_missing s (chosen s e) missing) can)
 
-    -- none is found, and it is not
-    pub decide_done : is ≡ false → t ≡ do_alone s e → t ≡ decide s e
-    decide_done h done = done ∙ sym (decide_alone s e (order_missing s e r same missing) (sym test ∙ h))
+    pub decide_done : rejectable s.plan e ≡ false → do_alone s e ≡ decide s e
+    decide_done cannot = sym (decide_alone s e (order_missing s (chosen s e) missing) cannot)
 
--- whether an event is open, by what the code reads in its place, and past the places
+-- whether an event is open, by what code reads in its place
 module _ (s : State) (e : ℕ) where
   pub fate_in : (o : Bool) → e < 16 → o ≡ is_open (get_or s.standings e blank_standing).fate → o ≡ is_open (fate_of s e)
   fate_in o lt h = h ∙ ap (λ (v : Standing). is_open v.fate) (sym (read_in 16 s.standings e blank_standing lt))
-
-  pub fate_blank : 16 ≤ e → true ≡ is_open (fate_of s e)
-  fate_blank ge = sym (ap is_open (fate_past s e ge))
 
 -- a call that is idle leaves the state as it is
 pub idle_same : (s : State) (c : Call) → idle s c ≡ true → (accept s c).state ≡ s

@@ -7,7 +7,7 @@ use mathlib.Core.Path.{◌≡◌, refl}
 use Rattle.plan.proofs.FormatCases.{times, sixteen_events}
 use lib.ListN.{take, replicate}
 use Rattle.scheduler.specs.Prelude.{Fate, Held, Done, Refused, Lapsed, Forced, Need, Plan, State, Call, Submit, Close, Finish, Advance}
-use Rattle.scheduler.specs.Prelude.{Answer, Is, Made, TurnedDown, Unknown, AlreadyClosed, NotClosed, Incoherent, Backward, Admitted, Faulty}
+use Rattle.scheduler.specs.Prelude.{Answer, Is, Made, TurnedDown, Unknown, AlreadyClosed, NotClosed, Incoherent, Backward, Ok, Err}
 use Rattle.plan.specs.Base.{any_below, all_below, count_below, first_of, tabulate, lowest}
 use Rattle.plan.specs.Plans.{rule_count, empty_plan, has_event, allowed_at, over_at, allowed_in, over_in}
 use Rattle.scheduler.specs.State.{first_state, empty_state, lines, hold, settle_as, shut, break_rule, set_minute}
@@ -43,8 +43,8 @@ unfoldable pub given : List ℕ → List Call → Given
 given b cs =
     let r = read_sheet b in
     elim r.verdict [
-      | Faulty f at ↦ rejected (sheet_fault_number f) at
-      | Admitted ↦ given_by (after scheduler r.state cs) (answers_of r.state cs)
+      | Err e ↦ rejected (sheet_fault_number e.fault) e.at
+      | Ok u ↦ given_by (after scheduler r.state cs) (answers_of r.state cs)
     ]
 
 -- a row: the sheet, the calls, what they give

@@ -1,19 +1,18 @@
 -- What calls change: put back beside the plan it is the state again, since no call changes the plan.
 use Prim.Native.Nat.{ℕ, zero, suc}
 use mathlib.Core.Bool.{Bool, true, false, ◌&&◌}
-use mathlib.Core.List.{List, [], ◌∷◌}
-use mathlib.Core.Option.{Option, none, some}
+use mathlib.Core.List.{List}
+use Rattle.std.specs.declared.option.Option.{Option}
+use Rattle.std.specs.declared.option.Option.TheVariants.{None as none, Some as some}
 use mathlib.Core.Path.{◌≡◌, refl, sym, ◌∙◌, ap}
 use lib.Dec.{eqb}
 use Rattle.scheduler.specs.declared.state.Course.{Course}
 use Rattle.scheduler.specs.Prelude.{Refused, Lapsed, Plan, State}
-use Rattle.plan.specs.Fates.{is_open, done_as}
+use Rattle.plan.specs.Fates.{is_open}
 use Rattle.plan.specs.Plans.{event_count, step_of, rejectable, delayable}
 use Rattle.scheduler.specs.State.{fate_of, hold, settle_as, shut, set_minute, course_of, with_course}
-use Rattle.scheduler.specs.Orders.{chosen, do_one, do_all}
+use Rattle.scheduler.specs.Orders.{chosen, do_all}
 use Rattle.scheduler.specs.Calls.{to_refuse, to_do, settle_once, settle_up_to, settle, decide, submit, lapse, close_step, refuse_held, finish, advance_to}
-use Rattle.scheduler.specs.Internal.Written.{written_of, with_written, write_one, write_all}
-use Rattle.scheduler.specs.Internal.Marked.{settle_all}
 use Rattle.plan.proofs.Tests.{some_none}
 use Rattle.scheduler.proofs.Branches.{up_to-none, up_to-some, decide_order, decide_refuse, decide_alone, submit_same, submit_delayed, submit_decided, lapse_yes, lapse_no, lowest_held, refuse_none, refuse_some}
 use Rattle.scheduler.proofs.Laws.{plan_settle, plan_hold, plan_shut, plan_minute}
@@ -23,18 +22,6 @@ use Rattle.scheduler.proofs.Doing.{alone_plan}
 pub with_course_lem : (s t : State) (r : Course) → r ≡ course_of t → t.plan ≡ s.plan → with_course s r ≡ t
 with_course_lem s t r same p =
     ap (with_course s) same ∙ ap (λ (q : Plan). record { plan = q; standings = t.standings; broken = t.broken; closed = t.closed; history = t.history; history_len = t.history_len; minute = t.minute }) (sym p)
-
--- no event past the places becomes held
-pub hold_none : (s : State) → hold s 16 ≡ s
-unfolding hold
-hold_none s = refl
-
--- events settled in the arrays are settled in the state
-pub write_all_lem : (s : State) (o : List ℕ) (m : List Bool) → with_written s (write_all (written_of s) o m) ≡ settle_all s o m
-unfolding write_all settle_all write_one settle_as
-write_all_lem s [] m = refl
-write_all_lem s (c ∷ o) [] = refl
-write_all_lem s (c ∷ o) (b ∷ m) = write_all_lem (settle_as (done_as b) s c) o m
 
 -- settling keeps the plan
 pub plan_once : (s u : State) → settle_once s ≡ some u → u.plan ≡ s.plan
@@ -49,25 +36,6 @@ plan_once s u h = go (to_refuse s) refl (to_do s) refl
     go none r (some o) q =
         let w : do_all s o ≡ u = cc (rw (r, q, settle_once) at h) in
         ap (λ (v : State). v.plan) (sym w) ∙ plan-do_all s o
-
-broken-do_all : (s : State) (o : List ℕ) → (do_all s o).broken ≡ s.broken
-unfolding do_all settle_as
-broken-do_all s [] = refl
-broken-do_all s (c ∷ o) = broken-do_all (do_one s c) o
-
--- a turn of settling records no rule
-pub broken_once : (s u : State) → settle_once s ≡ some u → u.broken ≡ s.broken
-unfolding settle_once settle_as
-broken_once s u h = go (to_refuse s) refl (to_do s) refl
-  where
-    go : (r : Option ℕ) → to_refuse s ≡ r → (d : Option (List ℕ)) → to_do s ≡ d → u.broken ≡ s.broken
-    go (some e) r d q =
-        let w : settle_as Refused s e ≡ u = cc (rw (r, settle_once) at h) in
-        ap (λ (v : State). v.broken) (sym w)
-    go none r none q = absurd (some_none (sym (rw (r, q, settle_once) at h)))
-    go none r (some o) q =
-        let w : do_all s o ≡ u = cc (rw (r, q, settle_once) at h) in
-        ap (λ (v : State). v.broken) (sym w) ∙ broken-do_all s o
 
 plan_up : (n : ℕ) (s : State) → (settle_up_to n s).plan ≡ s.plan
 unfolding settle_up_to

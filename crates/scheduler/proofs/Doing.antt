@@ -7,7 +7,8 @@ use borrow.Author.Tests.{le-ltb}
 use mathlib.Core.Bool.{Bool, true, false}
 use mathlib.Core.List.{List, [], ◌∷◌, ◌++◌, append-nil, append_assoc}
 use mathlib.Core.Logic.{◌≢◌, inl, inr}
-use mathlib.Core.Option.{Option, none, some}
+use Rattle.std.specs.declared.option.Option.{Option}
+use Rattle.std.specs.declared.option.Option.TheVariants.{None as none, Some as some}
 use mathlib.Core.Path.{◌≡◌, refl, sym, ◌∙◌, ap, subst}
 use Rattle.scheduler.specs.Prelude.{Fate, Held, Done, Refused, Lapsed, State, Call, Submit, Close, Finish, Advance, Reply}
 use Rattle.plan.specs.Plans.{event_count, rule_count, rejectable, delayable}

@@ -4,7 +4,8 @@ use borrow.Author.Tests.{eqb-true, ltb-false, leb-false, not-false}
 use mathlib.Core.Bool.{Bool, true, false, ◌&&◌}
 use mathlib.Core.List.{List}
 use mathlib.Core.Logic.{◌⊎◌, inl, inr}
-use mathlib.Core.Option.{Option, none, some}
+use Rattle.std.specs.declared.option.Option.{Option}
+use Rattle.std.specs.declared.option.Option.TheVariants.{None as none, Some as some}
 use mathlib.Core.Path.{◌≡◌, refl, sym, ◌∙◌, ap, subst}
 use lib.Dec.{eqb}
 use Rattle.scheduler.specs.Prelude.{[], Unknown, Backward, ltb, leb, Incoherent, not, Held, Open, Done, Refused, Lapsed, Plan, State, CallFault, Reply, Call, Submit, Close, Finish, Advance}

@@ -1,12 +1,13 @@
 -- Viable orders, and the chosen one.
 use Rattle.std.specs.Prelude.{◌≤◌, ◌<◌, ◌&&◌, ◌||◌, ◌∷◌, ◌⊎◌, ◌≡◌}
-use Rattle.scheduler.specs.Prelude.{ℕ, zero, suc, Bool, true, false, not, List, [], List-as-Memᴰ, Option, none, some, map_option, eqb, length, get_or, replicate, Fate, State}
+use Rattle.scheduler.specs.Prelude.{ℕ, zero, suc, Bool, true, false, not, List, [], List-as-Memᴰ, Option, none, some, map_option, eqb, length, get_or, Fate, State}
 use Rattle.plan.specs.Base.{first_of, when, any_below, tabulate}
 use Rattle.plan.specs.Fates.{is_open, done_as}
 use Rattle.plan.specs.Plans.{event_count}
 use Rattle.plan.specs.Rules.{ready}
 use Rattle.orders.specs.Sequences.{Ahead}
 use Rattle.scheduler.specs.declared.order.Found.{Found}
+use Rattle.scheduler.specs.declared.order.Place.{Place}
 use Rattle.scheduler.specs.State.{fate_of, in_time, settle_as}
 use Rattle.scheduler.specs.Rules.{forbidden, owing}
 
@@ -63,25 +64,23 @@ order_of candidate (suc k) s e had = first_of (event_count s.plan) 0 (λ c.
 unfoldable pub chosen : State → ℕ → Option (List ℕ)
 chosen s e = first_of 6 1 (λ k. order_of (λ c. true) k s e false)
 
--- which events of an order are open when their turn comes (7.12)
-unfoldable pub opens : State → List ℕ → List Bool
-opens s [] = []
-opens s (c ∷ o) = is_open (fate_of s c) ∷ opens (do_one s c) o
+-- the places of an order: its events, and which of them are open when their turn comes (7.12)
+unfoldable pub places_of : State → List ℕ → List Place
+places_of s [] = []
+places_of s (c ∷ o) = record { event = c; opened = is_open (fate_of s c) } ∷ places_of (do_one s c) o
 
--- what code gives if there is no order (7.5)
-abbrev pub no_order : Found
-no_order = record { ok = false; events = replicate 6 0; opened = replicate 6 false; len = 0 }
+-- a place behind an order: zero, and not open
+abbrev pub blank_place : Place
+blank_place = record { event = 0; opened = false }
 
--- an order as code gives it: its events from the front and zeros after them, which of them were open when their turn
--- came, and its length (7.5, 7.12)
-unfoldable pub found_order : State → Option (List ℕ) → Found
-found_order s none = no_order
-found_order s (some o) = record {
-  ok = true;
-  events = tabulate 6 0 (λ i. get_or o i 0);
-  opened = tabulate 6 0 (λ i. get_or (opens s o) i false);
-  len = length o;
-}
+-- an order as code gives it: its places from the front and blank ones after them, and its length (7.5, 7.12)
+abbrev pub found_events : State → List ℕ → Found
+found_events s o = record { places = tabulate 6 0 (λ i. get_or (places_of s o) i blank_place); len = length o }
+
+-- the order, if there is one (7.5)
+unfoldable pub found_order : State → Option (List ℕ) → Option Found
+found_order s none = none
+found_order s (some o) = some (found_events s o)
 
 -- some order of k events can be run, contains e, unless `had` says that e came earlier, and leaves no rule owing (7.3)
 unfoldable pub some_order : ℕ → State → ℕ → Bool → Bool

@@ -1,6 +1,6 @@
 -- The run of a file of calls on a sheet, and the report.
 use Rattle.std.specs.Prelude.{◌+◌, ◌/◌, ◌%◌, ◌∷◌, ◌++◌}
-use Rattle.scheduler.specs.Prelude.{ℕ, zero, suc, true, false, List, [], ltb, Fate, Open, Held, Done, Refused, Lapsed, Forced, Entry, State, Admitted, Faulty, Reading, Outcome}
+use Rattle.scheduler.specs.Prelude.{ℕ, zero, suc, true, false, List, [], ltb, Fate, Open, Held, Done, Refused, Lapsed, Forced, Entry, State, Ok, Err, Reading, Outcome}
 use Rattle.plan.specs.Base.{one_if, count_below}
 use Rattle.plan.specs.Fates.{is_held}
 use Rattle.plan.specs.Plans.{event_count, rule_count}
@@ -13,7 +13,7 @@ use Rattle.scheduler.specs.Lists.{scheduler, after, turned_down}
 -- the calls of a file are made on s; a bad record at their end counts as one call turned down (13.3)
 abbrev pub ran_on : State → Decoded → Outcome
 ran_on s d = record {
-  verdict = Admitted;
+  verdict = Ok tt;
   state = after scheduler s d.calls;
   refused = turned_down s d.calls + one_if d.cut;
 }
@@ -22,8 +22,8 @@ ran_on s d = record {
 -- one and no call is made (13.3, 13.5)
 unfoldable pub run_on : Reading → Decoded → Outcome
 run_on r d = elim r.verdict [
-  | Admitted ↦ ran_on r.state d
-  | Faulty f at ↦ record { verdict = Faulty f at; state = r.state; refused = 0 }
+  | Ok u ↦ ran_on r.state d
+  | Err e ↦ record { verdict = Err e; state = r.state; refused = 0 }
 ]
 
 -- the run of the runner's two files, a sheet and calls (13.3)
@@ -95,11 +95,11 @@ history_lines (l ∷ ls) = line (decimal l.event ␣ fate_word l.fate) ++ histor
 -- sheet that is turned down: the number and the offset (13.4, 13.5)
 unfoldable pub report : Outcome → List ℕ
 report r = elim r.verdict [
-  | Admitted ↦
+  | Ok u ↦
       line (events_word ␣ decimal (event_count r.state.plan) ␣ rules_word ␣ decimal (rule_count r.state.plan))
       ++ history_lines (lines r.state)
       ++ line (fate_word Held ␣ decimal (held_count r.state))
       ++ line (broken_word ␣ decimal (broken_count r.state))
       ++ line (fate_word Refused ␣ calls_word ␣ decimal r.refused)
-  | Faulty f at ↦ line (fate_word Refused ␣ decimal (sheet_fault_number f) ␣ at_word ␣ decimal at)
+  | Err e ↦ line (fate_word Refused ␣ decimal (sheet_fault_number e.fault) ␣ at_word ␣ decimal e.at)
 ]

@@ -10,11 +10,13 @@ impl State {
     pub fn is_coherent(self) -> bool
         ensures { result ≡ coherent self }
     {
-        let plan = self.plan;
-        let standings = self.standings;
-        let broken = self.broken;
-        let closed = self.closed;
-        let history = self.history;
-        does_cohere(plan, standings, broken, closed, history, self.history_len)
+        does_cohere(
+            self.plan,
+            self.standings,
+            self.broken,
+            self.closed,
+            self.history,
+            self.history_len,
+        )
     }
 }

@@ -1,9 +1,9 @@
-// The state of a plan under way, and its five writers.
-ghost use Rattle.std.specs.Prelude.{◌≡◌, take};
-ghost use Rattle.scheduler.specs.State.{hold, settle_as, break_rule, set_minute, course_of, with_course};
-ghost use Rattle.scheduler.specs.Internal.Written.{write_all};
+// The state of a plan under way: how its parts are read, and its writers.
+ghost use Rattle.std.specs.Prelude.{◌≡◌};
+ghost use Rattle.plan.specs.Plans.{step_of, delayable, rejectable};
+ghost use Rattle.scheduler.specs.State.{fate_of, closed_at, hold, settle_as, break_rule, shut, course_of, with_course};
 
-use checks::fate::done_as;
+use checks::event::{is_delayable, is_rejectable};
 use plan::fate::{Fate, Standing};
 use plan::history::Entry;
 use plan::plan::Plan;
@@ -31,141 +31,134 @@ pub struct Course {
     pub minute: u32,
 }
 
-// What settling an event writes.
-#[derive(Clone, Copy)]
-pub(crate) struct Written {
-    pub standings: [Standing; 16],
-    pub history: [Entry; 16],
-    pub history_len: u8,
-}
-
 impl State {
-    // An event becomes held.
-    pub(crate) fn hold(self, event: u8) -> State
-        ensures { result ≡ hold self event }
+    // The same plan, with another such part.
+    pub fn with_course(self, course: Course) -> State
+        ensures { result ≡ with_course self course }
     {
-        let mut next = self;
-        if event < 16 {
-            next.standings[event as usize] = Standing { fate: Fate::Held };
-            return next;
+        let Course {
+            standings,
+            broken,
+            closed,
+            history,
+            history_len,
+            minute,
+        } = course;
+        State {
+            standings,
+            broken,
+            closed,
+            history,
+            history_len,
+            minute,
+            ..self
         }
-        next
-    }
-
-    // An event is settled: its fate is written and its line added to the history.
-    pub(crate) fn settle_as(self, fate: Fate, event: u8) -> State
-        ensures { result ≡ settle_as fate self event }
-    {
-        let len = self.history_len;
-        let mut next = self;
-        if event < 16 {
-            next.standings[event as usize] = Standing { fate };
-            if len < 16 {
-                next.history[len as usize] = Entry { event, fate };
-                next.history_len = len + 1;
-                return next;
-            }
-            return next;
-        }
-        if len < 16 {
-            next.history[len as usize] = Entry { event, fate };
-            next.history_len = len + 1;
-            return next;
-        }
-        next
     }
 
     // The part of the state that calls change.
-    pub(crate) fn course(self) -> Course
-        ensures { result ≡ course_of self }
+    pub(crate) fn course(&self) -> Course
+        ensures { result ≡ course_of self.now }
     {
-        let standings = self.standings;
-        let broken = self.broken;
-        let closed = self.closed;
-        let history = self.history;
+        let State {
+            standings,
+            broken,
+            closed,
+            history,
+            history_len,
+            minute,
+            ..
+        } = *self;
         Course {
             standings,
             broken,
             closed,
             history,
-            history_len: self.history_len,
-            minute: self.minute,
+            history_len,
+            minute,
         }
     }
 
-    // The same plan, with another such part.
-    pub fn with_course(self, course: Course) -> State
-        ensures { result ≡ with_course self course }
+    // The event's fate. Past the 16 places an event is open.
+    pub(crate) fn fate(&self, event: u8) -> Fate
+        ensures { result ≡ fate_of self.now event }
     {
-        let plan = self.plan;
-        let standings = course.standings;
-        let broken = course.broken;
-        let closed = course.closed;
-        let history = course.history;
-        State {
-            plan,
-            standings,
-            broken,
-            closed,
-            history,
-            history_len: course.history_len,
-            minute: course.minute,
+        if event < 16 {
+            self.standings[event as usize].fate
+        } else {
+            Fate::Open
         }
     }
 
-    // The minute is moved.
-    pub(crate) fn set_minute(self, minute: u32) -> State
-        ensures { result ≡ set_minute self minute }
+    // The event's step. Past the 16 places an event is of step 0.
+    pub(crate) fn step(&self, event: u8) -> u8
+        ensures { result ≡ step_of self.now.plan event }
     {
-        let mut next = self;
-        next.minute = minute;
-        next
+        if event < 16 {
+            self.plan.events[event as usize].step
+        } else {
+            0
+        }
+    }
+
+    // Can the event wait?
+    pub(crate) fn can_wait(&self, event: u8) -> bool
+        ensures { result ≡ delayable self.now.plan event }
+    {
+        event < 16 && is_delayable(self.plan.events[event as usize].attributes)
+    }
+
+    // Can the event be refused?
+    pub(crate) fn can_refuse(&self, event: u8) -> bool
+        ensures { result ≡ rejectable self.now.plan event }
+    {
+        event < 16 && is_rejectable(self.plan.events[event as usize].attributes)
+    }
+
+    // Is the step closed?
+    pub(crate) fn is_closed(&self, step: u8) -> bool
+        ensures { result ≡ closed_at self.now step }
+    {
+        step < 8 && self.closed[step as usize]
+    }
+
+    // An event becomes held.
+    pub(crate) fn hold(&mut self, event: u8)
+        ensures { self.new ≡ hold self.old event }
+    {
+        if event < 16 {
+            self.standings[event as usize] = Standing { fate: Fate::Held };
+        }
+    }
+
+    // An event is settled: its fate is written and its line added to the history.
+    pub(crate) fn settle_as(&mut self, fate: Fate, event: u8)
+        ensures { self.new ≡ settle_as fate self.old event }
+    {
+        let len = self.history_len;
+        if event < 16 {
+            self.standings[event as usize] = Standing { fate };
+        }
+        if len < 16 {
+            self.history[len as usize] = Entry { event, fate };
+            self.history_len = len + 1;
+        }
+    }
+
+    // A step is closed.
+    pub(crate) fn shut(&mut self, step: u8)
+        ensures { self.new ≡ shut self.old step }
+    {
+        if step < 8 {
+            self.closed[step as usize] = true;
+        }
     }
 
     // A rule is recorded as broken.
-    pub(crate) fn break_rule(self, rule: u8) -> State
-        ensures { result ≡ break_rule self rule }
+    pub(crate) fn break_rule(&mut self, rule: u8)
+        ensures { self.new ≡ break_rule self.old rule }
     {
-        let mut next = self;
         if rule < 16 {
-            next.broken[rule as usize] = true;
-            return next;
+            self.broken[rule as usize] = true;
         }
-        next
     }
-}
-
-// Does the events of an order one after another, at most six. Each is settled in place: as forced if the search found
-// it open, else as done.
-pub(crate) fn do_events(
-    standings: [Standing; 16],
-    history: [Entry; 16],
-    lines: u8,
-    events: [u8; 6],
-    opened: [bool; 6],
-    len: u8,
-) -> Written
-    ensures { result ≡ write_all (record { standings = standings; history = history; history_len = lines }) (take len events) (take len opened) }
-{
-    let n = if len < 6 { len } else { 6 };
-    let mut next = Written {
-        standings,
-        history,
-        history_len: lines,
-    };
-    let mut i: u8 = 0;
-    while i < n {
-        let event = events[i as usize];
-        let fate = done_as(opened[i as usize]);
-        let at = next.history_len;
-        if event < 16 {
-            next.standings[event as usize] = Standing { fate };
-        }
-        if at < 16 {
-            next.history[at as usize] = Entry { event, fate };
-            next.history_len = at + 1;
-        }
-        i += 1;
-    }
-    next
 }

@@ -1,10 +1,7 @@
 -- The lemmas that the functions' proofs cite.
 pub mod RecordLaws
-pub mod RecordRows
 pub mod Rooms
-pub mod ProgressLaws
 pub mod Reading
 pub mod ReaderOwned
 pub mod ArrayStore
 pub mod PlanStored
-pub mod KindLaws

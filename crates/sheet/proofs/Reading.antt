@@ -1,152 +1,101 @@
 -- Reading record after record comes to what the sheet comes to.
-use Prim.Native.Nat.{ℕ, zero, suc, ◌+◌, ◌-◌, ◌≤◌, ◌<◌}
-use mathlib.Core.Bool.{true, false}
-use mathlib.Core.List.{List}
-use mathlib.Core.Logic.{inl, inr}
-use mathlib.Core.Option.{Option, none, some}
-use mathlib.Core.Path.{◌≡◌, refl, sym, ◌∙◌, ap, subst}
-use native.Mathlib.Omega.{arith}
-use borrow.Author.Tests.{eq-eqb}
-use lib.Dec.{eqb, ltb}
-use lib.ListN.{length}
+use Rattle.std.proofs.Common.{◌≡◌, ℕ, zero, suc, ◌+◌, ◌-◌, ◌≤◌, ◌<◌, List, length, Ok, Err, refl, sym, ◌∙◌, ap, subst, arith}
+use Rattle.std.specs.declared.option.Option.TheVariants.{None as none, Some as some}
+use borrow.Author.Tests.{eq-eqb, ne_eqb, lt-ltb, le-ltb}
+use Rattle.plan.specs.Faults.{refusal}
 use Rattle.plan.specs.Plans.{empty_plan}
 use Rattle.plan.specs.Records.{body_length, record_at, declare, record_fault}
-use Rattle.plan.specs.Sheets.{whole, faulty, read_from, read_plan, ending, sheet_plan}
-use Rattle.plan.proofs.Tests.{clash, either}
+use Rattle.plan.specs.Sheets.{PlanReading, whole, faulty, read_from, read_plan, ending, sheet_plan}
 use Rattle.plan.proofs.SheetReading.{read_enough, read_fault, read_end, read_next}
+use Rattle.plan.proofs.FaultlessRecords.{Faultless, faultless}
 use Rattle.scheduler.specs.Sheet.{read_sheet}
-use Rattle.sheet.specs.Types.{Plan, Record, Reader, SheetFault, Extra, Admitted, Faulty, Judged}
-use Rattle.sheet.specs.Internal.Progress.{end_verdict, judge, reading_of}
-use Rattle.sheet.specs.Internal.Place.{place_after, moved_past}
+use Rattle.sheet.specs.Types.{Plan, Record, Extra, Refusal, Kind, Reader}
+use Rattle.sheet.specs.Internal.Progress.{plan_of, reading_of, IsFine, IsFaulty}
+use Rattle.sheet.specs.Internal.Place.{place_after, new_reader, moved_past}
 use Rattle.sheet.proofs.RecordLaws.{place_inside}
-use Rattle.plan.proofs.FaultlessRecords.{faultless}
-use Rattle.sheet.proofs.Rooms.{Room, room}
-use Rattle.sheet.proofs.ProgressLaws.{judge_fault, judge_end, judge_next}
 
--- what the sheet comes to, by what it comes to with the bytes after kind 5
-module _ (b : List ℕ) (p : Plan) where
-  judged_faulty : (f : SheetFault) (at : ℕ) → sheet_plan b ≡ faulty f at → reading_of (Faulty f at) p ≡ read_sheet b
-  unfolding read_sheet reading_of
-  judged_faulty f at h = rw (h, read_sheet)
+-- a sheet's plan, or its refusal, gives the reading
+pub reading_lem : (b : List ℕ) → reading_of (plan_of (sheet_plan b)) ≡ read_sheet b
+unfolding read_sheet
+reading_lem b = go (sheet_plan b) refl
+  where
+    go : (r : PlanReading) → sheet_plan b ≡ r → reading_of (plan_of (sheet_plan b)) ≡ read_sheet b
+    go (whole p at) e = rw (e, read_sheet)
+    go (faulty f at) e = rw (e, read_sheet)
 
-  judged_whole : (at : ℕ) → sheet_plan b ≡ whole p at → reading_of Admitted p ≡ read_sheet b
-  unfolding read_sheet reading_of
-  judged_whole at h = rw (h, read_sheet)
-
-  -- the same by what its records come to
-  sheet_faulty : (f : SheetFault) (at : ℕ) → read_plan b ≡ faulty f at → reading_of (Faulty f at) p ≡ read_sheet b
-  unfolding sheet_plan ending
-  sheet_faulty f at h = judged_faulty f at (ap (ending b) h)
-
-  sheet_end : (at : ℕ) → read_plan b ≡ whole p (at + 1) → reading_of (end_verdict (length b) at) p ≡ read_sheet b
-  unfolding sheet_plan ending
-  sheet_end at h = elim (either (ltb (at + 1) (length b))) [
-    | inl t ↦ rw (t, end_verdict) (judged_faulty Extra (at + 1) (ap (ending b) h ∙ rw (t, ending)))
-    | inr t ↦ rw (t, end_verdict) (judged_whole (at + 1) (ap (ending b) h ∙ rw (t, ending)))
-  ]
-
--- what is left to read comes to what the sheet comes to, and the budget passes it
-pub record Left (b : List ℕ) (at : ℕ) (p : Plan) : Type 0 where
+-- the loop's invariant: the reader holds the sheet, and what is left to read from its place on comes to what the sheet
+-- comes to; the budget passes it
+pub record Left (b : List ℕ) (d : Reader) (p : Plan) : Type 0 where
+  pub held : d.sheet.now ≡ b
   pub budget : ℕ
-  pub enough : length b ≤ budget + at
-  pub same : read_from (suc budget) b at p ≡ read_plan b
+  pub enough : length b ≤ budget + d.at
+  pub same : read_from (suc budget) b d.at p ≡ read_plan b
 
-pub begins : (b : List ℕ) → Left b 0 empty_plan
-begins b = record { budget = length b; enough = omega arith; same = read_enough (suc (length b)) b (omega arith) }
+pub begins : (s : _) → Left s.now (new_reader s) empty_plan
+begins s = record {
+  held = refl;
+  budget = length s.now;
+  enough = omega arith;
+  same = read_enough (suc (length s.now)) s.now (omega arith);
+}
 
--- a turn: the record at the offset is judged, and the offset is the next record's
-module _ (b : List ℕ) (at : ℕ) (p : Plan) where
-  abbrev rec : Record
-  rec = record_at b at
+-- a turn of the loop
+module _ {b : List ℕ} {d : Reader} {p : Plan} (l : Left b d p) where
+  -- a fault ends the reading
+  pub stops : (e : Refusal) → IsFaulty p d.sheet.now d.at e → Err e ≡ plan_of (sheet_plan b)
+  unfolding sheet_plan ending
+  stops e q =
+      let f = subst (λ s. record_fault p (length s) d.at (record_at s d.at) ≡ some e.fault) l.held q.fault in
+      ap (λ at. Err (refusal e.fault at)) q.place
+      ∙ sym (ap (λ r. plan_of (ending b r)) (sym l.same ∙ read_fault l.budget b d.at p e.fault f))
 
-  abbrev len : ℕ
-  len = length b
+  module _ {k : Kind} {r : Record} (q : IsFine p d.sheet.now d.at k r) where
+    here : r ≡ record_at b d.at
+    here = q.read ∙ ap (λ s. record_at s d.at) l.held
 
-  abbrev after : ℕ
-  after = place_after len at rec
+    fine_here : record_fault p (length b) d.at r ≡ none
+    fine_here = subst (λ (s : List ℕ). record_fault p (length s) d.at r ≡ none) l.held q.fine
 
-  abbrev judged : Judged
-  judged = judge p len at rec
+    fine : record_fault p (length b) d.at (record_at b d.at) ≡ none
+    fine = subst (λ (x : Record). record_fault p (length b) d.at x ≡ none) here fine_here
 
-  -- where the reading stops, it has come to what the sheet comes to
-  pub stopped : Left b at p → judged.stops ≡ true → reading_of judged.verdict p ≡ read_sheet b
-  stopped l t = go (record_fault p len at rec) refl
-    where
-      go : (o : Option SheetFault) → record_fault p len at rec ≡ o → reading_of judged.verdict p ≡ read_sheet b
-      go (some f) h = ap (λ (j : Judged). reading_of j.verdict p) (judge_fault p len at rec f h) ∙ sheet_faulty b p f at (sym l.same ∙ read_fault l.budget b at p f h)
-      go none h = elim (either (eqb rec.kind 5)) [
-        | inl k ↦ ap (λ (j : Judged). reading_of j.verdict p) (judge_end p len at rec h k) ∙ sheet_end b p at (sym l.same ∙ read_end l.budget b at p h k)
-        | inr k ↦ absurd (clash t (ap (λ (j : Judged). j.stops) (judge_next p len at rec h k)))
-      ]
+    -- the record lies whole within the sheet, and the plan has room for it
+    pub sound : Faultless p (length b) d.at r
+    sound = faultless p (length b) d.at r fine_here
 
-  module _ (t : judged.stops ≡ false) where
-    -- where it goes on, the record has no fault and is not the last
-    pub fine : record_fault p len at rec ≡ none
-    fine = go (record_fault p len at rec) refl
-      where
-        go : (o : Option SheetFault) → record_fault p len at rec ≡ o → record_fault p len at rec ≡ none
-        go (some f) h = absurd (clash (ap (λ (j : Judged). j.stops) (judge_fault p len at rec f h)) t)
-        go none h = h
+    -- kind 5 ends the reading, and nothing may follow it
+    module _ (last : r.kind ≡ 5) where
+      ended : read_plan b ≡ whole p (d.at + 1)
+      ended = sym l.same ∙ read_end l.budget b d.at p fine (eq-eqb (record_at b d.at).kind 5 (ap (λ (x : Record). x.kind) (sym here) ∙ last))
 
-    not_last : eqb rec.kind 5 ≡ false
-    not_last = elim (either (eqb rec.kind 5)) [
-      | inl k ↦ absurd (clash (ap (λ (j : Judged). j.stops) (judge_end p len at rec fine k)) t)
-      | inr k ↦ k
-    ]
+      pub ends_whole : length b ≤ d.at + 1 → Ok p ≡ plan_of (sheet_plan b)
+      unfolding sheet_plan ending
+      ends_whole h = sym (ap (λ r. plan_of (ending b r)) ended ∙ rw (le-ltb (d.at + 1) (length b) h, ending))
 
-    moved : after ≡ at + 1 + body_length rec.kind
-    moved = place_inside len at rec (faultless p len at rec fine).inside
+      pub ends_early : d.at + 1 < length b → Err (refusal Extra (d.at + 1)) ≡ plan_of (sheet_plan b)
+      unfolding sheet_plan ending
+      ends_early h = sym (ap (λ r. plan_of (ending b r)) ended ∙ rw (lt-ltb (d.at + 1) (length b) h, ending))
 
-    pub again : Left b at p → Left b after (declare p rec)
-    again l = more l.budget l.enough l.same
-      where
-        more : (n : ℕ) → len ≤ n + at → read_from (suc n) b at p ≡ read_plan b → Left b after (declare p rec)
-        more zero e s = absurd (omega (arith, (faultless p len at rec fine).inside))
-        more (suc n) e s = rw (moved) (record { budget = n; enough = omega arith; same = sym (read_next (suc n) b at p fine not_last) ∙ s })
-
-    pub less : len - after < len - at
-    less = omega (arith, moved, (faultless p len at rec fine).whole, (faultless p len at rec fine).inside)
-
-    -- and the plan has a place for what it declares
-    pub has_room_lem : Room p rec.kind
-    has_room_lem = room (faultless p len at rec fine) (λ e. clash (eq-eqb rec.kind 5 e) not_last)
-
--- a turn of the loop, at what its calls have answered: the record at the reader's place, how it is judged, the reader
--- moved past it, and the plan with what it declares
-module _ (b : List ℕ) (rd : Reader) (p : Plan) (r : Record) (j : Judged) (held : rd.sheet.now ≡ b)
-    (reads : r ≡ record_at rd.sheet.now rd.at) (judges : j ≡ judge p (length b) rd.at r) where
-  read_here : r ≡ record_at b rd.at
-  read_here = reads ∙ ap (λ (s : List ℕ). record_at s rd.at) held
-
-  judged_here : j ≡ judge p (length b) rd.at (record_at b rd.at)
-  judged_here = judges ∙ ap (judge p (length b) rd.at) read_here
-
-  pub turn_stops : Left b rd.at p → j.stops ≡ true → reading_of j.verdict p ≡ read_sheet b
-  turn_stops l t =
-      ap (λ (x : Judged). reading_of x.verdict p) judged_here
-      ∙ stopped b rd.at p l (ap (λ (x : Judged). x.stops) (sym judged_here) ∙ t)
-
-  module _ (goes : j.stops ≡ false) where
-    goes_here : (judge p (length b) rd.at (record_at b rd.at)).stops ≡ false
-    goes_here = ap (λ (x : Judged). x.stops) (sym judged_here) ∙ goes
-
-    pub turn_room : Room p r.kind
-    turn_room = rw read_here (has_room_lem b rd.at p goes_here)
-
-    module _ (rd' : Reader) (moves : rd' ≡ moved_past rd r) where
-      placed_here : rd'.at ≡ place_after (length b) rd.at (record_at b rd.at)
-      placed_here =
+    -- any other record is declared, and what is left begins after it
+    module _ {d' : Reader} (moves : d' ≡ moved_past d r) where
+      moved : d'.at ≡ d.at + 1 + body_length r.kind
+      moved =
           ap (λ (x : Reader). x.at) moves
-          ∙ ap (λ (s : List ℕ). place_after (length s) rd.at r) held
-          ∙ ap (place_after (length b) rd.at) read_here
+          ∙ ap (λ (s : List ℕ). place_after (length s) d.at r) l.held
+          ∙ place_inside (length b) d.at r sound.inside
 
-      pub turn_less : length b - rd'.at < length b - rd.at
-      turn_less = rw placed_here (less b rd.at p goes_here)
+      pub less : length b - d'.at < length b - d.at
+      less = omega (arith, moved, sound.whole, sound.inside)
 
-      pub turn_left : (p' : Plan) → p' ≡ declare p r → Left b rd.at p → (rd'.sheet.now ≡ b) × Left b rd'.at p'
-      turn_left p' q l =
-          let next = again b rd.at p goes_here l in
-          let here : p' ≡ declare p (record_at b rd.at) = q ∙ ap (declare p) read_here in (
-            ap (λ (x : Reader). x.sheet.now) moves ∙ held,
-            subst (λ (n : ℕ). Left b n p') (sym placed_here) (subst (λ (x : Plan). Left b (place_after (length b) rd.at (record_at b rd.at)) x) (sym here) next),
-          )
+      pub again : {p' : Plan} → p' ≡ declare p r → (r.kind ≡ 5 → ⊥) → Left b d' p'
+      again {p'} declares goes = more l.budget l.enough l.same
+        where
+          more : (n : ℕ) → length b ≤ n + d.at → read_from (suc n) b d.at p ≡ read_plan b → Left b d' p'
+          more zero e s = absurd (omega (arith, sound.inside))
+          more (suc n) e s = record {
+            held = ap (λ (x : Reader). x.sheet.now) moves ∙ l.held;
+            budget = n;
+            enough = omega (arith, moved);
+            same = rw (moved, declares, here)
+                (sym (read_next (suc n) b d.at p fine (ne_eqb (record_at b d.at).kind 5 (λ x. goes (ap (λ (y : Record). y.kind) here ∙ x)))) ∙ s);
+          }

@@ -7,11 +7,8 @@ pub use Rattle.plan.specs.declared.plan.Plan.{Plan}
 pub use Rattle.plan.specs.declared.record.Record.{Record}
 pub use Rattle.plan.specs.declared.answer.SheetFault.{SheetFault}
 pub use Rattle.plan.specs.declared.answer.SheetFault.TheVariants.{Cut, BadKind, Full, BadStep, BadAttributes, BadNames, Unenforceable, Extra, BadWindow}
-pub use Rattle.plan.specs.declared.answer.Verdict.{Verdict}
-pub use Rattle.plan.specs.declared.answer.Verdict.TheVariants.{Admitted, Faulty}
+pub use Rattle.plan.specs.declared.answer.Refusal.{Refusal}
 pub use Rattle.scheduler.specs.declared.state.State.{State}
 pub use Rattle.scheduler.specs.declared.reply.Reading.{Reading}
-pub use Rattle.sheet.specs.declared.fault.Check.{Check}
-pub use Rattle.sheet.specs.declared.fault.Check.TheVariants.{Fine, Bad}
-pub use Rattle.sheet.specs.declared.read.Judged.{Judged}
+pub use Rattle.sheet.specs.declared.kind.Kind.{Kind}
 pub use Rattle.sheet.specs.declared.reader.Reader.{Reader}

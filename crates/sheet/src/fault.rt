@@ -1,10 +1,14 @@
-// The tests of a record: its first fault, if it has one.
-ghost use Rattle.std.specs.Prelude.{◌≡◌};
-ghost use Rattle.plan.specs.Records.{record_fault};
-ghost use Rattle.plan.specs.Rules.{bad_window};
-ghost use Rattle.sheet.specs.Internal.Progress.{is_full, rule_fault, body_fault, check_of};
+// The tests of a record: its kind, or its first fault.
+#![tactic(auto, unfolding(plan::specs::Faults::first_fault))]
 
-use super::kind::{EVENT, FOUR_EVENTS, WINDOW, body_length, new_events, new_rules, rule_of};
+ghost use Rattle.std.specs.Prelude.{◌≡◌, IfOk, IfErr, None, Some};
+ghost use Rattle.plan.specs.Records.{record_fault, rule_of};
+ghost use Rattle.plan.specs.Rules.{bad_window};
+ghost use Rattle.sheet.specs.Internal.Records.{number_of};
+ghost use Rattle.sheet.specs.Internal.Progress.{is_full, body_fault, check_of};
+ghost use Rattle.sheet.specs.Internal.Progress.{event_fault, step_fault, rule_fault, window_fault};
+
+use super::kind::Kind;
 use checks::event::{are_bad, is_delayable};
 use checks::rule::{are_named, is_enforceable};
 use plan::answer::SheetFault;
@@ -12,92 +16,109 @@ use plan::plan::Plan;
 use plan::record::Record;
 use plan::rule::Rule;
 
-// What the tests of a record give: it is fine, or its first fault.
-#[derive(Clone, Copy)]
-pub(crate) enum Check {
-    Fine,
-    Bad(SheetFault),
-}
-
 // Tests the record at an offset of a sheet of some length.
-pub(crate) fn check_record(plan: Plan, len: usize, at: usize, rec: Record) -> Check
-    ensures { result ≡ check_of (record_fault plan len at rec) }
+#[tactic(auto, unfolding(plan::specs::Records::record_fault, plan::specs::Faults::first_fault))]
+pub(crate) fn check_record(
+    plan: &Plan,
+    len: usize,
+    at: usize,
+    rec: Record,
+) -> Result<Kind, SheetFault>
+    ensures fine { IfOk result (λ kind. (record_fault plan.now len at rec ≡ None) × (number_of kind ≡ rec.kind)) }
+    ensures faulty { IfErr result (λ fault. record_fault plan.now len at rec ≡ Some fault) }
 {
-    let kind = rec.kind;
     if len <= at {
-        return Check::Bad(SheetFault::Cut);
+        return Err(SheetFault::Cut);
     }
-    if (kind == 0) | (7 < kind) {
-        return Check::Bad(SheetFault::BadKind);
-    }
-    let size = 1 + body_length(kind) as usize;
-    if len - at < size {
-        return Check::Bad(SheetFault::Cut);
+    let Some(kind) = Kind::of(rec.kind) else {
+        return Err(SheetFault::BadKind);
+    };
+    if len - at < 1 + kind.body_length() as usize {
+        return Err(SheetFault::Cut);
     }
     if is_full(plan, kind) {
-        return Check::Bad(SheetFault::Full);
+        return Err(SheetFault::Full);
     }
-    check_body(plan, rec)
+    check_body(plan, kind, rec)?;
+    Ok(kind)
+}
+
+// Row 3: is there no room for what a record of this kind declares?
+fn is_full(plan: &Plan, kind: Kind) -> bool
+    ensures { result ≡ is_full plan.now (number_of kind) }
+{
+    let events = plan.event_count as usize + kind.new_events() as usize;
+    let rules = plan.rule_count as usize + kind.new_rules() as usize;
+    16 < events || 16 < rules
 }
 
 // The rows from 4 on, which look at the body.
-fn check_body(plan: Plan, rec: Record) -> Check
-    ensures { result ≡ check_of (body_fault plan rec) }
+fn check_body(plan: &Plan, kind: Kind, rec: Record) -> Result<(), SheetFault>
+    requires { number_of kind ≡ rec.kind }
+    ensures { result ≡ check_of (body_fault plan.now rec) }
 {
-    let kind = rec.kind;
-    if ((kind == EVENT) | (kind == FOUR_EVENTS)) & (7 < rec.x) {
-        return Check::Bad(SheetFault::BadStep);
+    match kind {
+        Kind::Event => check_event(rec.x, rec.y),
+        Kind::Order | Kind::Need | Kind::Conditional => check_rule(plan, kind.rule_of(rec)),
+        Kind::End => Ok(()),
+        Kind::FourEvents => check_step(rec.x),
+        Kind::Window => check_window(plan, rec),
     }
-    if (kind == EVENT) & are_bad(rec.y) {
-        return Check::Bad(SheetFault::BadAttributes);
-    }
-    if new_rules(kind) == 1 {
-        return check_rule(plan, rule_of(rec));
-    }
-    if kind == WINDOW {
-        if is_bad_window(plan, rec.x, rec.from, rec.until) {
-            return Check::Bad(SheetFault::BadWindow);
-        }
-    }
-    Check::Fine
 }
 
-// Row 15: a window that the sheet may not give the event.
-fn is_bad_window(plan: Plan, event: u8, from: u32, until: u32) -> bool
-    ensures { result ≡ bad_window plan event from until }
+// Rows 4 and 5 of an event.
+fn check_event(step: u8, attributes: u8) -> Result<(), SheetFault>
+    ensures { result ≡ check_of (event_fault step attributes) }
 {
-    let events = plan.events;
-    let windows = plan.windows;
-    if event < 16 {
-        let declared = events[event as usize];
-        let window = windows[event as usize];
-        return (plan.event_count <= event)
-            | !is_delayable(declared.attributes)
-            | !(window.until == 0)
-            | (until <= from);
+    check_step(step)?;
+    if are_bad(attributes) {
+        return Err(SheetFault::BadAttributes);
     }
-    true
+    Ok(())
+}
+
+// Row 4.
+fn check_step(step: u8) -> Result<(), SheetFault>
+    ensures { result ≡ check_of (step_fault step) }
+{
+    if 7 < step {
+        return Err(SheetFault::BadStep);
+    }
+    Ok(())
 }
 
 // Rows 6 and 7: the rule's names, and whether it can be enforced.
-fn check_rule(plan: Plan, rule: Rule) -> Check
-    ensures { result ≡ check_of (rule_fault plan rule) }
+fn check_rule(plan: &Plan, rule: Rule) -> Result<(), SheetFault>
+    ensures { result ≡ check_of (rule_fault plan.now rule) }
 {
     if !are_named(plan.event_count, rule) {
-        return Check::Bad(SheetFault::BadNames);
+        return Err(SheetFault::BadNames);
     }
-    let events = plan.events;
-    if !is_enforceable(events, rule) {
-        return Check::Bad(SheetFault::Unenforceable);
+    if !is_enforceable(plan.events, rule) {
+        return Err(SheetFault::Unenforceable);
     }
-    Check::Fine
+    Ok(())
 }
 
-// Row 3: is there no room for what the record declares?
-fn is_full(plan: Plan, kind: u8) -> bool
-    ensures { result ≡ is_full plan kind }
+// Row 15: a window that the sheet may not give the event.
+fn check_window(plan: &Plan, rec: Record) -> Result<(), SheetFault>
+    ensures { result ≡ check_of (window_fault plan.now rec) }
 {
-    let events = plan.event_count as usize + new_events(kind) as usize;
-    let rules = plan.rule_count as usize + new_rules(kind) as usize;
-    (16 < events) | (16 < rules)
+    if is_bad_window(plan, rec.x, rec.from, rec.until) {
+        return Err(SheetFault::BadWindow);
+    }
+    Ok(())
+}
+
+#[tactic(auto, unfolding(plan::specs::Rules::bad_window))]
+fn is_bad_window(plan: &Plan, event: u8, from: u32, until: u32) -> bool
+    ensures { result ≡ bad_window plan.now event from until }
+{
+    if 16 <= event {
+        return true;
+    }
+    plan.event_count <= event
+        || !is_delayable(plan.events[event as usize].attributes)
+        || plan.windows[event as usize].until != 0
+        || until <= from
 }

@@ -1,70 +1,92 @@
-// The kinds of records: the length of a body, what it declares, and the rule of a rule's record.
-ghost use Rattle.std.specs.Prelude.{◌≡◌};
+// The kinds of records: the length of a body, what a record declares, and the rule of a rule's record.
+ghost use Rattle.std.specs.Prelude.{◌≡◌, ◌<◌, ◌⊎◌, MatchOption};
 ghost use Rattle.plan.specs.Records.{body_length, new_events, new_rules, rule_of};
+ghost use Rattle.sheet.specs.Internal.Records.{number_of};
 
 use plan::record::Record;
 use plan::rule::Rule;
 
-// The kinds that the code names.
-pub(crate) const EVENT: u8 = 1;
+#[derive(Clone, Copy, PartialEq, Eq)]
+pub(crate) enum Kind {
+    Event,
+    Order,
+    Need,
+    Conditional,
+    End,
+    FourEvents,
+    Window,
+}
 
-pub(crate) const ORDER: u8 = 2;
-
-pub(crate) const NEED: u8 = 3;
-
-pub(crate) const END: u8 = 5;
-
-pub(crate) const FOUR_EVENTS: u8 = 6;
-
-pub(crate) const WINDOW: u8 = 7;
-
-// By kind: the length of the body, and how many events and rules it declares. An array in place of the arms would be
-// built again at every call.
+// The length of the body of a record with this byte as its kind; 0 if no kind has this byte.
 pub fn body_length(kind: u8) -> u8
     ensures { result ≡ body_length kind }
 {
-    match kind {
-        1 => 2,
-        2 => 2,
-        3 => 2,
-        4 => 3,
-        6 => 1,
-        7 => 9,
-        _ => 0,
+    match Kind::of(kind) {
+        Some(kind) => kind.body_length(),
+        None => 0,
     }
 }
 
-pub(crate) fn new_events(kind: u8) -> u8
-    ensures { result ≡ new_events kind }
-{
-    match kind {
-        1 => 1,
-        6 => 4,
-        _ => 0,
+impl Kind {
+    // The kind that has this byte.
+    pub(crate) fn of(byte: u8) -> Option<Kind>
+        ensures { MatchOption result ((byte ≡ 0) ⊎ (7 < byte)) (λ kind. number_of kind ≡ byte) }
+    {
+        match byte {
+            1 => Some(Kind::Event),
+            2 => Some(Kind::Order),
+            3 => Some(Kind::Need),
+            4 => Some(Kind::Conditional),
+            5 => Some(Kind::End),
+            6 => Some(Kind::FourEvents),
+            7 => Some(Kind::Window),
+            _ => None,
+        }
     }
-}
 
-pub(crate) fn new_rules(kind: u8) -> u8
-    ensures { result ≡ new_rules kind }
-{
-    match kind {
-        2 => 1,
-        3 => 1,
-        4 => 1,
-        _ => 0,
+    // The length of the body, and how many events and rules it declares. An array in place of the arms would be built
+    // again at every call.
+    pub(crate) fn body_length(self) -> u8
+        ensures { result ≡ body_length (number_of self) }
+    {
+        match self {
+            Kind::Event | Kind::Order | Kind::Need => 2,
+            Kind::Conditional => 3,
+            Kind::End => 0,
+            Kind::FourEvents => 1,
+            Kind::Window => 9,
+        }
     }
-}
 
-// The rule of a record of kind 2, 3 or 4.
-pub(crate) fn rule_of(rec: Record) -> Rule
-    ensures { result ≡ rule_of rec }
-{
-    let kind = rec.kind;
-    if kind == ORDER {
-        return Rule::Order(rec.x, rec.y);
+    pub(crate) fn new_events(self) -> u8
+        ensures { result ≡ new_events (number_of self) }
+    {
+        match self {
+            Kind::Event => 1,
+            Kind::FourEvents => 4,
+            _ => 0,
+        }
     }
-    if kind == NEED {
-        return Rule::Need(rec.x, rec.y);
+
+    pub(crate) fn new_rules(self) -> u8
+        ensures { result ≡ new_rules (number_of self) }
+    {
+        match self {
+            Kind::Order | Kind::Need | Kind::Conditional => 1,
+            _ => 0,
+        }
     }
-    Rule::Conditional(rec.x, rec.y, rec.z)
+
+    // The rule of a record of kind 2, 3 or 4.
+    #[tactic(auto, unfolding(plan::specs::Records::rule_of))]
+    pub(crate) fn rule_of(self, rec: Record) -> Rule
+        requires { number_of self ≡ rec.kind }
+        ensures { result ≡ rule_of rec }
+    {
+        match self {
+            Kind::Order => Rule::Order(rec.x, rec.y),
+            Kind::Need => Rule::Need(rec.x, rec.y),
+            _ => Rule::Conditional(rec.x, rec.y, rec.z),
+        }
+    }
 }

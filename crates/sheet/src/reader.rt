@@ -13,36 +13,26 @@ pub(crate) struct Reader<'a> {
     pub at: usize,
 }
 
-pub(crate) fn new_reader<'a>(sheet: &'a [u8]) -> Reader<'a>
-    ensures { result ≡ new_reader sheet.entry }
-{
-    Reader { sheet, at: 0 }
-}
-
-// The record at the reader's place.
-pub(crate) fn next_record<'a>(reader: Reader<'a>) -> Record
-    ensures { result ≡ record_at reader.entry.sheet.now reader.entry.at }
-{
-    record_at(reader.sheet, reader.at)
-}
-
-// The reader moved past the record at its place.
-pub(crate) fn moved_past<'a>(reader: Reader<'a>, rec: Record) -> Reader<'a>
-    ensures { result ≡ moved_past reader.entry rec }
-{
-    Reader {
-        sheet: reader.sheet,
-        at: place_after(reader.sheet, reader.at, rec),
+impl<'a> Reader<'a> {
+    pub(crate) fn new(sheet: &'a [u8]) -> Reader<'a>
+        ensures { result ≡ new_reader sheet.entry }
+    {
+        Reader { sheet, at: 0 }
     }
-}
 
-// The offset after the record at an offset; past the sheet's end, the same.
-fn place_after(sheet: &[u8], at: usize, rec: Record) -> usize
-    ensures { result ≡ place_after (length sheet.now) at rec }
-{
-    if at < sheet.len() {
-        at + 1 + body_length(rec.kind) as usize
-    } else {
-        at
+    // The record at the reader's place.
+    pub(crate) fn record(&self) -> Record
+        ensures { result ≡ record_at self.now.sheet.now self.now.at }
+    {
+        record_at(self.sheet, self.at)
+    }
+
+    // Moves past the record at the reader's place; past the sheet's end, the place stays.
+    pub(crate) fn move_past(&mut self, rec: Record)
+        ensures { self.new ≡ moved_past self.old rec }
+    {
+        if self.at < self.sheet.len() {
+            self.at += 1 + body_length(rec.kind) as usize;
+        }
     }
 }

@@ -1,74 +1,50 @@
 // The records of a sheet's bytes.
-ghost use Rattle.std.specs.Prelude.{◌≡◌, ◌+◌, ◌<◌, ◌^◌, length, get_or};
+ghost use Rattle.std.specs.Prelude.{◌≡◌};
 ghost use Rattle.plan.specs.Records.{record_at, word_at};
+ghost use Rattle.sheet.specs.Internal.Records.{four_bytes_at};
 
-use super::kind::WINDOW;
-use checks::bytes::{byte_at, word_of};
+use super::kind::Kind;
+use checks::bytes::word_of;
 use plan::record::Record;
 
-// The record at an offset; past the sheet's end, zeros. Only kind 7 has the two numbers. Where three bytes follow the
-// kind, they are read without a test for each.
+// The record at an offset; past the sheet's end, zeros. Only kind 7 has the two numbers.
 pub(crate) fn record_at(sheet: &[u8], at: usize) -> Record
     ensures { result ≡ record_at sheet.now at }
 {
-    if at < sheet.len() {
-        let kind = sheet[at];
-        if kind == WINDOW {
-            return window_record(sheet, at);
-        }
-        if at + 3 < sheet.len() {
-            return Record {
-                kind,
-                x: sheet[at + 1],
-                y: sheet[at + 2],
-                z: sheet[at + 3],
-                from: 0,
-                until: 0,
-            };
-        }
-        return Record {
-            kind,
-            x: byte_at(sheet, at + 1),
-            y: byte_at(sheet, at + 2),
-            z: byte_at(sheet, at + 3),
-            from: 0,
-            until: 0,
-        };
-    }
+    let [kind, x, y, z] = four_bytes_at(sheet, at);
+    let (from, until) = if matches!(Kind::of(kind), Some(Kind::Window)) {
+        (word_at(sheet, at + 2), word_at(sheet, at + 6))
+    } else {
+        (0, 0)
+    };
     Record {
-        kind: 0,
-        x: 0,
-        y: 0,
-        z: 0,
-        from: 0,
-        until: 0,
+        kind,
+        x,
+        y,
+        z,
+        from,
+        until,
     }
 }
 
-// The record of kind 7 at an offset.
-fn window_record(sheet: &[u8], at: usize) -> Record
-    requires { at < length sheet.now }
-    ensures { get_or sheet.now at 0 ≡ 7 → result ≡ record_at sheet.now at }
-{
-    Record {
-        kind: WINDOW,
-        x: byte_at(sheet, at + 1),
-        y: byte_at(sheet, at + 2),
-        z: byte_at(sheet, at + 3),
-        from: word_at(sheet, at + 2),
-        until: word_at(sheet, at + 6),
-    }
-}
-
-// Four bytes as a number, the lowest first; past the sheet's end, zeros.
+// Four bytes as a number, the lowest first; past the sheet's end, zeros. (With the array as it stands, and not taken
+// apart for `word_of`, reading was slower.)
 fn word_at(sheet: &[u8], at: usize) -> u32
-    requires { at + 3 < 2 ^ 64 }
     ensures { result ≡ word_at sheet.now at }
 {
-    word_of(
-        byte_at(sheet, at),
-        byte_at(sheet, at + 1),
-        byte_at(sheet, at + 2),
-        byte_at(sheet, at + 3),
-    )
+    let [a, b, c, d] = four_bytes_at(sheet, at);
+    word_of(a, b, c, d)
+}
+
+// The four bytes from an offset on; past the sheet's end, zeros.
+fn four_bytes_at(sheet: &[u8], at: usize) -> [u8; 4]
+    ensures { result ≡ four_bytes_at sheet.now at }
+{
+    match *sheet.get(at..).unwrap_or(&[]) {
+        [a, b, c, d, ..] => [a, b, c, d],
+        [a, b, c] => [a, b, c, 0],
+        [a, b] => [a, b, 0, 0],
+        [a] => [a, 0, 0, 0],
+        [] => [0; 4],
+    }
 }

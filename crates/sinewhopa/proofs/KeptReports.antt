@@ -6,7 +6,7 @@ use mathlib.Core.Bool.{Bool, true, false, not}
 use mathlib.Core.List.{List, []}
 use mathlib.Core.Path.{◌≡◌, refl, sym, ◌∙◌, ap}
 use lib.ListN.{length}
-use Rattle.plan.specs.declared.answer.Verdict.TheVariants.{Admitted}
+use Rattle.std.specs.Prelude.{Ok}
 use Rattle.scheduler.specs.declared.state.State.{State}
 use Rattle.scheduler.specs.Runner.{report}
 use Rattle.image.specs.Layout.{state_in}
@@ -43,11 +43,11 @@ module _ (b out : List ℕ) (n : ℕ) (t : Bool) (e : t ≡ is_sound b) where
       → (s : State)
       → s ≡ state_in b
       → (r : ℕ) (l : List ℕ)
-      → Written (report (record { verdict = Admitted; state = s; refused = n })) out r l
+      → Written (report (record { verdict = Ok tt; state = s; refused = n })) out r l
       → Written (report_on b n) out r l
   reported h s g r l w = rw same w
     where
-      same : report_on b n ≡ report (record { verdict = Admitted; state = s; refused = n })
+      same : report_on b n ≡ report (record { verdict = Ok tt; state = s; refused = n })
       same =
           something b n (sym e ∙ not-false t h)
-          ∙ ap (λ (x : State). report (record { verdict = Admitted; state = x; refused = n })) (sym g)
+          ∙ ap (λ (x : State). report (record { verdict = Ok tt; state = x; refused = n })) (sym g)

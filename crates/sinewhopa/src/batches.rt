@@ -14,8 +14,7 @@ pub extern "C" fn sinewhopa_submit_all(state: &mut [u8; 384], entries: &mut [Bat
     ensures bytes { state.new ≡ image_after_batch state.old entries.old }
     ensures answers { entries.new ≡ entries_on state.old entries.old }
 {
-    let bytes = *state;
-    let kept = kept_state(bytes);
+    let kept = kept_state(*state);
     let reply = submit_all(kept, entries);
     note_reply(state, reply)
 }

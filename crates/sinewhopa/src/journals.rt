@@ -26,12 +26,10 @@ pub extern "C" fn sinewhopa_open_journal(
     ensures left { leftover.new ≡ journal_left (journal_read (open_journal calls journal.now)).verdict }
 {
     let opened = open_journal(journal);
-    let verdict = opened.verdict;
-    let kept = opened.state;
-    put_state(state, kept);
-    *at = journal_offset(verdict);
-    *leftover = journal_left(verdict);
-    journal_number(verdict)
+    put_state(state, opened.state);
+    *at = journal_offset(opened.verdict);
+    *leftover = journal_left(opened.verdict);
+    journal_number(opened.verdict)
 }
 
 // Appends the record of a call, given by its kind and its number, to the journal in the first `len` bytes of a buffer.
@@ -51,8 +49,7 @@ pub extern "C" fn sinewhopa_append(
     ensures length { new_len.new ≡ (asked_reply journal.old len (asked_call kind number)).len }
     ensures offset { at.new ≡ (asked_reply journal.old len (asked_call kind number)).at }
 {
-    let asked = asked_call(kind, number);
-    let reply = append_asked(journal, len, asked);
+    let reply = append_asked(journal, len, asked_call(kind, number));
     *new_len = reply.len;
     *at = reply.at;
     reply.number
@@ -65,6 +62,5 @@ pub extern "C" fn sinewhopa_record(kind: u8, number: u32, record: &mut [u8; 8]) 
     ensures size { result ≡ record_size (asked_call kind number) }
     ensures bytes { «record».new ≡ record_in (asked_call kind number) «record».old }
 {
-    let asked = asked_call(kind, number);
-    put_asked(record, asked)
+    put_asked(record, asked_call(kind, number))
 }

@@ -14,6 +14,9 @@ ghost use Rattle.std.specs.Prelude.{◌≡◌, ◌≤◌, length};
 ghost use Rattle.scheduler.specs.Runner.{run_of, report};
 ghost use Rattle.pages.specs.Filled.{filled};
 
+use lists::run::run;
+use report::write_report;
+
 // Runs the calls on the sheet, writes the report at the start of `out` and answers its length. If `out` is shorter than
 // that, nothing is written.
 #[unsafe(no_mangle)]
@@ -22,6 +25,5 @@ pub extern "C" fn sinewhopa_run(sheet: &[u8], calls: &[u8], out: &mut [u8]) -> u
     ensures bytes { out.new ≡ filled (report (run_of sheet.now calls.now)) out.old }
     ensures short { result ≤ 320 }
 {
-    let outcome = lists::run::run(sheet, calls);
-    report::write_report(outcome, out)
+    write_report(run(sheet, calls), out)
 }

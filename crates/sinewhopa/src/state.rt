@@ -11,9 +11,10 @@ use image::kept::{check, is_sound, make_call};
 use image::number::{verdict_number, verdict_offset};
 use image::read::state_in;
 use image::write::put_state;
-use plan::answer::Verdict;
 use plan::calls::Call;
+use report::write_report;
 use scheduler::reply::Outcome;
+use sheet::read::read_sheet;
 
 // Reads a sheet and writes its first state, or the empty state if the sheet is turned down. Answers the sheet's number,
 // and writes the offset of its fault into `at`.
@@ -23,12 +24,10 @@ pub extern "C" fn sinewhopa_open(state: &mut [u8; 384], sheet: &[u8], at: &mut u
     ensures bytes { state.new ≡ image_of (read_sheet sheet.now).state }
     ensures offset { at.new ≡ verdict_offset (read_sheet sheet.now).verdict }
 {
-    let reading = sheet::read::read_sheet(sheet);
-    let verdict = reading.verdict;
-    let first = reading.state;
-    put_state(state, first);
-    *at = verdict_offset(verdict);
-    verdict_number(verdict)
+    let reading = read_sheet(sheet);
+    put_state(state, reading.state);
+    *at = verdict_offset(reading.verdict);
+    verdict_number(reading.verdict)
 }
 
 // Submits (hands in) an event.
@@ -86,11 +85,10 @@ pub extern "C" fn sinewhopa_report(state: &[u8; 384], refused: usize, out: &mut 
     if !is_sound(state) {
         return 0;
     }
-    let kept = state_in(state);
     let outcome = Outcome {
-        verdict: Verdict::Admitted,
-        state: kept,
+        verdict: Ok(()),
+        state: state_in(state),
         refused,
     };
-    report::write_report(outcome, out)
+    write_report(outcome, out)
 }

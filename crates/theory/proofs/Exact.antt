@@ -6,7 +6,8 @@ use borrow.Author.Tests.{eq-eqb, eqb-true, not-false}
 use mathlib.Core.Bool.{true, false, not, ◌&&◌}
 use mathlib.Core.List.{List}
 use mathlib.Core.Logic.{inl, inr}
-use mathlib.Core.Option.{Option, none, some}
+use Rattle.std.specs.declared.option.Option.{Option}
+use Rattle.std.specs.declared.option.Option.TheVariants.{None as none, Some as some}
 use mathlib.Core.Path.{◌≡◌, refl, sym, ◌∙◌, ap, subst}
 use lib.Dec.{eqb}
 use Rattle.theory.proofs.Types.{Open, Lapsed, Plan, State, CallFault, Incoherent, Reply, Call, Submit, Close, Finish, Advance}

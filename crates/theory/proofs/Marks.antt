@@ -1,9 +1,11 @@
 -- S-5: two states that are the same but for marks stay so under every write and every call that is taken.
+use lib.Seq.{map-set as map_set}
 use Prim.Native.Nat.{ℕ, zero, suc}
 use mathlib.Core.Bool.{Bool, true, false, not, ◌&&◌, ◌||◌, cond}
 use mathlib.Core.List.{List, [], ◌∷◌, map}
-use mathlib.Core.Option
-use mathlib.Core.Option.{Option, none, some}
+use Rattle.std.specs.declared.option.Option.{Option}
+use Rattle.std.specs.declared.option.Option.TheVariants.{None as none, Some as some}
+use Rattle.std.specs.Option.{option_map}
 use mathlib.Core.Path.{◌≡◌, refl, sym, ◌∙◌, ap, ap₂, fun_ext}
 use lib.Dec.{eqb, ltb}
 use lib.ListN.{get_or, set, get_or-map}
@@ -23,11 +25,6 @@ use Rattle.plan.proofs.Fates.{as_done}
 use Rattle.scheduler.proofs.Branches.{up_to-none, up_to-some, decide_order, decide_refuse, decide_alone, submit_same, submit_delayed, submit_decided, lapse_yes, lapse_no, lowest_held, refuse_none, refuse_some}
 
 -- a list written after a map
-map_set : {A B : Type 0} (f : A → B) (l : List A) (i : ℕ) (a : A) → map f (set l i a) ≡ set (map f l) i (f a)
-map_set f [] i a = refl
-map_set f (x ∷ l) zero a = refl
-map_set f (x ∷ l) (suc i) a = ap (λ m. f x ∷ m) (map_set f l i a)
-
 map_store : {A B : Type 0} (f : A → B) (n : ℕ) (l : List A) (i : ℕ) (a : A) → map f (store_at n l i a) ≡ store_at n (map f l) i (f a)
 map_store f n l i a = go (ltb i n)
   where
@@ -240,7 +237,7 @@ unfolding order_of
 order_like candidate zero s t k e had = rw (owing_like s t k)
 order_like candidate (suc n) s t k e had =
     ap₂ (λ m f. first_of m 0 f) (ap event_count (plan_like s t k)) (fun_ext (λ c.
-    ap₂ (λ may later. when (candidate c && may) (Option.map (λ o. c ∷ o) later)) (may_like s t k c)
+    ap₂ (λ may later. when (candidate c && may) (option_map (λ o. c ∷ o) later)) (may_like s t k c)
     (order_like candidate n (do_one s c) (do_one t c) (one_like s t k c) e (had || eqb c e))))
 
 pub chosen_like : (s t : State) → Like s t → (e : ℕ) → chosen s e ≡ chosen t e
@@ -259,11 +256,11 @@ module _ (s t : State) (k : Like s t) where
   do_like =
       ap₂ (λ n f. first_of n 0 f) (ap event_count (plan_like s t k)) (fun_ext (λ e. ap₂ when (kind_like s t k e).is_held_lem (chosen_like s t k e)))
 
-  once_like : Option.map forget (settle_once s) ≡ Option.map forget (settle_once t)
+  once_like : option_map forget (settle_once s) ≡ option_map forget (settle_once t)
   unfolding settle_once
   once_like = go (to_refuse s) refl (to_do s) refl
     where
-      go : (q : Option ℕ) → to_refuse s ≡ q → (d : Option (List ℕ)) → to_do s ≡ d → Option.map forget (settle_once s) ≡ Option.map forget (settle_once t)
+      go : (q : Option ℕ) → to_refuse s ≡ q → (d : Option (List ℕ)) → to_do s ≡ d → option_map forget (settle_once s) ≡ option_map forget (settle_once t)
       go (some e) h d w = rw (sym refuse_like ∙ h, h, settle_once) (ap {B = Option State} some (settle_like s t k Refused Refused refl e))
       go none h none w = rw (sym refuse_like ∙ h, h, sym do_like ∙ w, w, settle_once)
       go none h (some o) w = rw (sym refuse_like ∙ h, h, sym do_like ∙ w, w, settle_once) (ap {B = Option State} some (all_like s t k o))
@@ -280,7 +277,7 @@ up_like (suc n) s t k = go (settle_once s) (settle_once t) refl refl (once_like 
     go : (a b : Option State)
         → settle_once s ≡ a
         → settle_once t ≡ b
-        → Option.map forget a ≡ Option.map forget b
+        → option_map forget a ≡ option_map forget b
         → ((u v : State) → Like u v → Like (settle_up_to n u) (settle_up_to n v))
         → Like (settle_up_to (suc n) s) (settle_up_to (suc n) t)
     go none none p q h later = like_as (up_to-none n s p) (up_to-none n t q) k

@@ -5,7 +5,7 @@ use native.Mathlib.Decide.{dec_lt}
 use borrow.Author.Tests.{le-ltb}
 use mathlib.Core.Bool.{true}
 use mathlib.Core.List.{List, [], ◌∷◌, ◌++◌, append-nil, append_assoc, Memᴰ}
-use mathlib.Core.Option.{none}
+use Rattle.std.specs.declared.option.Option.TheVariants.{None as none}
 use mathlib.Core.Path.{◌≡◌, refl, sym, ◌∙◌, ap, subst}
 use Rattle.theory.proofs.Types.{Fate, Held, Refused, Entry, State, Reply, Advance}
 use Rattle.plan.specs.Faults.{first_fault}

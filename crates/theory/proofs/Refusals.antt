@@ -7,7 +7,8 @@ use borrow.Author.Tests.{leb-false, not-true, not-false}
 use mathlib.Core.Bool.{true, false, not, ◌&&◌}
 use mathlib.Core.List.{List, [], ◌∷◌}
 use mathlib.Core.Logic.{◌≢◌, ◌⊎◌, inl, inr}
-use mathlib.Core.Option.{Option, none, some}
+use Rattle.std.specs.declared.option.Option.{Option}
+use Rattle.std.specs.declared.option.Option.TheVariants.{None as none, Some as some}
 use mathlib.Core.Path.{◌≡◌, refl, sym, ◌∙◌, ap, subst}
 use lib.Dec.{ltb, leb}
 use Rattle.theory.proofs.Types.{Fate, Held, Done, Refused, Lapsed, Plan, State, CallFault, Unknown, Incoherent, Call, Submit}

@@ -6,11 +6,13 @@ use borrow.Author.Tests.{ltb-true, lt-ltb, leb-false, eqb-false, not-false}
 use mathlib.Core.Bool.{Bool, true, false, not, ◌&&◌, ◌||◌}
 use mathlib.Core.List.{List, [], ◌∷◌}
 use mathlib.Core.Logic.{◌≢◌, inl, inr}
-use mathlib.Core.Option.{Option, none, some}
+use Rattle.std.specs.declared.option.Option.{Option}
+use Rattle.std.specs.declared.option.Option.TheVariants.{None as none, Some as some}
 use mathlib.Core.Path.{◌≡◌, refl, sym, ◌∙◌, ap, subst}
 use lib.Dec.{eqb, ltb, leb}
 use lib.ListN.{length, get_or}
-use Rattle.theory.proofs.Types.{Event, Rule, Order, Need, Conditional, RuleLine, Window, Plan, Record, State, SheetFault, Admitted, Faulty, Reading}
+use Rattle.theory.proofs.Types.{Event, Rule, Order, Need, Conditional, RuleLine, Window, Plan, Record, State, SheetFault, Ok, Err, Reading}
+use Rattle.plan.specs.Faults.{Verdict, refusal}
 use Rattle.theory.proofs.Conjunctions.{and_three, and_four}
 use Rattle.theory.proofs.SoundPlans.{Sound, rule_named, rule_enforced, same_enforced}
 use Rattle.plan.specs.Plans.{event_count, rule_count, event_at, attributes_of, window_at, from_of, until_of, has_window, rule_at, holds_bit, delayable, blank_event, blank_rule, blank_window, empty_plan}
@@ -330,7 +332,7 @@ ending_whole b (whole q at) p end h = go (ltb at (length b)) refl
     go true t = absurd (faulty_whole (rw (t, ending) at h))
     go false t = (end, rw (t, ending) at h)
 
-refused_admitted : {f : SheetFault} {at : ℕ} → Faulty f at ≡ Admitted → ⊥
+refused_admitted : {f : SheetFault} {at : ℕ} → ◌≡◌ {A = Verdict} (Err (refusal f at)) (Ok tt) → ⊥
 refused_admitted {f} {at} h = let z : ◌≡◌ {A = ℕ} 0 1 = cc in omega arith
 
 -- an admitted sheet's plan, and its state
@@ -376,7 +378,7 @@ sheet_lengths b s h = let r = sheet_read b s h in (r.events_len, r.rules_len)
 
 -- a sheet turned down
 pub sheet_refused : (b : List ℕ) (f : SheetFault) (at : ℕ)
-    → (read_sheet b).verdict ≡ Faulty f at
+    → (read_sheet b).verdict ≡ Err (refusal f at)
     → (read_sheet b).state ≡ empty_state
 unfolding read_sheet
 sheet_refused b f at h = go (sheet_plan b) refl

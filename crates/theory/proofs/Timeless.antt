@@ -2,7 +2,9 @@
 use Prim.Native.Nat.{ℕ, zero, suc}
 use mathlib.Core.Bool.{Bool, true, false, not, ◌&&◌, ◌||◌}
 use mathlib.Core.List.{List, [], ◌∷◌}
-use mathlib.Core.Option.{Option, none, some, map}
+use Rattle.std.specs.declared.option.Option.{Option}
+use Rattle.std.specs.declared.option.Option.TheVariants.{None as none, Some as some}
+use Rattle.std.specs.Option.{option_map as map}
 use mathlib.Core.Path.{◌≡◌, refl, sym, ◌∙◌, ap, ap₂, subst, fun_ext}
 use lib.Dec.{eqb}
 use Rattle.theory.proofs.Types.{Fate, Done, Refused, Lapsed, Plan, State, CallFault, Incoherent, Is, Made, Reply, Call, Submit, Close, Finish, Advance}

@@ -17,8 +17,9 @@ pub use Rattle.plan.specs.declared.answer.CallFault.{CallFault}
 pub use Rattle.plan.specs.declared.answer.CallFault.TheVariants.{Unknown, AlreadyClosed, NotClosed, Incoherent, TooLong, NoRoom, Backward}
 pub use Rattle.plan.specs.declared.answer.Answer.{Answer}
 pub use Rattle.plan.specs.declared.answer.Answer.TheVariants.{Is, Made, TurnedDown}
-pub use Rattle.plan.specs.declared.answer.Verdict.{Verdict}
-pub use Rattle.plan.specs.declared.answer.Verdict.TheVariants.{Admitted, Faulty}
+pub use Rattle.plan.specs.declared.answer.Refusal.{Refusal}
+pub use Rattle.std.specs.declared.result.Result.{Result}
+pub use Rattle.std.specs.declared.result.Result.TheVariants.{Ok, Err}
 pub use Rattle.scheduler.specs.declared.state.State.{State}
 pub use Rattle.scheduler.specs.declared.reply.Reading.{Reading}
 pub use Rattle.scheduler.specs.declared.reply.Reply.{Reply}

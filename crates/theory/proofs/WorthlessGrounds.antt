@@ -1,5 +1,6 @@
 -- For each ground of a refusal, and for lapsing and holding, a worthless scheduler that does it without the ground; and
 -- what the grounds leave open: only the whole of demand 2 turns these away.
+use Rattle.std.proofs.lemmas.Bool.{and_right as and_false}
 use Prim.Native.Nat.{ℕ, suc, ◌≤◌, ◌<◌}
 use native.Mathlib.Omega.{arith}
 use native.Mathlib.Decide.{ℕ_discrete}
@@ -92,10 +93,6 @@ not_refuser_able g =
     ]
 
 -- 0 needs 1, which is open. In a call that neither hands 1 in nor closes its step, 1 is never gone, and 0 is not barred
-and_false : (a b : Bool) → b ≡ false → (a && b) ≡ false
-and_false true b h = h
-and_false false b h = refl
-
 module _
     {c : Call}
     {s u : State}

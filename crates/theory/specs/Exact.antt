@@ -1,7 +1,7 @@
 -- Demand 2 whole, for any scheduler: exactly what an accepted call gives, call by call. Only one scheduler has this
 -- property (`exact_only`). Also: which events may be refused at all.
 use Rattle.std.specs.Prelude.{ℕ, ◌<◌, true, false, List, ◌⊎◌, ◌≡◌}
-use Rattle.std.proofs.Math.Option.{none, some}
+use Rattle.std.specs.declared.option.Option.TheVariants.{None as none, Some as some}
 use Rattle.plan.specs.declared.fate.Fate.TheVariants.{Open, Refused, Lapsed}
 use Rattle.plan.specs.declared.calls.Call.{Call}
 use Rattle.plan.specs.declared.calls.Call.TheVariants.{Submit, Close, Finish, Advance}

@@ -1,6 +1,6 @@
 -- Held events first: the search that looks at orders without forced events before the others.
 use Rattle.std.specs.Prelude.{ℕ, ◌≤◌, ◌<◌, Bool, true, false, List, ◌≡◌, length}
-use Rattle.std.proofs.Math.Option.{Option}
+use Rattle.std.specs.declared.option.Option.{Option}
 use Rattle.scheduler.specs.declared.state.State.{State}
 use Rattle.plan.specs.Base.{first_of, or_else}
 use Rattle.plan.specs.Fates.{is_held}

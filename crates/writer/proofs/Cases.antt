@@ -9,7 +9,7 @@ use Rattle.plan.specs.Base.{any_below, all_below, first_of, tabulate, lowest}
 use Rattle.plan.specs.Plans.{has_event, allowed_in, over_in, allowed_at, over_at}
 use Rattle.plan.specs.Rules.{named, enforceable, sound_event, sound_rule, unstoppable, reckoned, triggered, bars, makes_wait, forbids, owes, ready, bad_window, sound_window, sound_windows}
 use Rattle.plan.specs.Histories.{listed_as, fates_in, any_done, done_in, done_in_turn, holds, declared_only, same_fates}
-use Rattle.plan.specs.Faults.{first_fault, answer_number}
+use Rattle.plan.specs.Faults.{first_fault}
 use Rattle.plan.specs.Records.{rule_of, add_event, add_rule, add_events, declare, record_fault, add_window}
 use Rattle.plan.specs.Sheets.{sheet_plan, ending, read_from, read_plan}
 use Rattle.plan.proofs.FormatCases.{times}
@@ -24,7 +24,7 @@ use Rattle.scheduler.specs.Sheet.{read_sheet}
 use Rattle.scheduler.proofs.Cases.{sheet_a, sheet_d, sheet_l, first_on}
 use Rattle.pages.specs.Filled.{filled}
 use Rattle.image.specs.Layout.{image_of, place_ok, is_image}
-use Rattle.writer.specs.Writing.{joined, sheet_bytes, write_fault, write_reply, buffer_after, window_record, window_bytes}
+use Rattle.writer.specs.Writing.{joined, sheet_bytes, reply_number, reply_length, write_fault, write_reply, buffer_after, window_record, window_bytes}
 use Rattle.writer.specs.Kept.{write_number_on, need_on, buffer_on}
 
 -- what writing into a lent buffer comes to: the number, the length that is given, and the buffer
@@ -32,7 +32,7 @@ abbrev pub Outcome : Type 0
 Outcome = ℕ × ℕ × List ℕ
 
 unfoldable pub outcome : State → List ℕ → Outcome
-outcome s out = (answer_number (write_reply s (length out)).answer, (write_reply s (length out)).length, buffer_after s out)
+outcome s out = let reply = write_reply s (length out) in (reply_number reply, reply_length reply, buffer_after s out)
 
 -- a row: the state, the lent buffer, what writing comes to
 abbrev pub Case : Type 0

@@ -1,14 +1,13 @@
 -- The sheet of a kept state: its branches, what the code comes to, and the theorems for hosts.
 use Prim.Native.Nat.{ℕ}
-use borrow.Author.Tests.{not-true, not-false}
-use mathlib.Core.Bool.{Bool, true, false, not, cond}
+use mathlib.Core.Bool.{true, false, cond}
 use mathlib.Core.List.{List, [], ◌∷◌}
 use mathlib.Core.Logic.{◌≢◌, inl, inr}
-use mathlib.Core.Option.{Option, none, some}
+use Rattle.std.specs.declared.option.Option.{Option}
+use Rattle.std.specs.declared.option.Option.TheVariants.{None as none, Some as some}
 use mathlib.Core.Path.{◌≡◌, refl, sym, ◌∙◌, ap}
 use lib.Dec.{ltb}
 use lib.ListN.{length}
-use Rattle.plan.specs.Faults.{answer_number}
 use Rattle.plan.proofs.Tests.{either}
 use Rattle.scheduler.specs.State.{Sized}
 use Rattle.scheduler.specs.Answers.{call}
@@ -21,10 +20,10 @@ use Rattle.image.specs.Layout.{image_of, state_in, is_image}
 use Rattle.image.specs.Calls.{images_after}
 use Rattle.image.proofs.Images.{image_is, read_back}
 use Rattle.image.proofs.ImageCalls.{call_plan, images_after_lem, after_whole, admitted_whole}
-use Rattle.writer.specs.Types.{Call, CallFault, Plan, State, SheetReply}
-use Rattle.writer.specs.Writing.{sheet_bytes, sheet_length, length_given, write_fault, write_reply, buffer_after, SameDeclared}
+use Rattle.writer.specs.Types.{Call, Result, WriteFault, Plan, State}
+use Rattle.writer.specs.Writing.{sheet_bytes, sheet_length, length_given, reply_number, reply_length, write_fault, write_reply, buffer_after, SameDeclared}
 use Rattle.writer.specs.Kept.{write_number_on, need_on, buffer_on, HostedSheet}
-use Rattle.writer.proofs.Replies.{reply_length, reply_number, sound_number, sound_length, sound_buffer, buffer_fault}
+use Rattle.writer.proofs.Replies.{reply_gives, number_none, sound_number, sound_length, sound_buffer, buffer_fault}
 use Rattle.writer.proofs.Sheets.{written_alike}
 
 -- by whether the bytes are an image
@@ -41,7 +40,7 @@ module _ (b : List ℕ) where
   unfolding buffer_on
   buffer_other out h = rw h
 
-  pub number_image : (room : ℕ) → is_image b ≡ true → write_number_on b room ≡ answer_number (write_reply (state_in b) room).answer
+  pub number_image : (room : ℕ) → is_image b ≡ true → write_number_on b room ≡ reply_number (write_reply (state_in b) room)
   unfolding write_number_on
   number_image room h = rw h
 
@@ -53,33 +52,21 @@ module _ (b : List ℕ) where
   unfolding buffer_on
   buffer_image out h = rw h
 
-  -- what the code comes to: a number, the length, and the buffer
-  abbrev pub OnBytes : List ℕ → ℕ → ℕ → List ℕ → Type 0
-  OnBytes out n need x = (n ≡ write_number_on b (length out)) × ((x ≡ buffer_on b out) × (need ≡ need_on b))
+  -- what the code comes to at an image, by the reply of the writing
+  module _ (out : List ℕ) (h : is_image b ≡ true) (s : State) (said : s ≡ state_in b) where
+    module _ (r : Result ℕ WriteFault) (reply : r ≡ write_reply s (length out)) where
+      same : r ≡ write_reply (state_in b) (length out)
+      same = reply ∙ ap (λ (t : State). write_reply t (length out)) said
 
-  module _ (q : Bool) (test : q ≡ is_image b) (out : List ℕ) where
-    pub no_image : not q ≡ true → OnBytes out 12 0 out
-    no_image h =
-        let is = sym test ∙ not-true q h in
-        (sym (number_other (length out) is), (sym (buffer_other out is), sym (need_other is)))
+      pub number_said : reply_number r ≡ write_number_on b (length out)
+      number_said = ap reply_number same ∙ sym (number_image (length out) h)
 
-    pub on_image : not q ≡ false
-        → (s : State)
-        → s ≡ state_in b
-        → (r : SheetReply) (x : List ℕ)
-        → (r ≡ write_reply s (length out)) × (x ≡ buffer_after s out)
-        → (n : ℕ)
-        → n ≡ answer_number r.answer
-        → OnBytes out n r.length x
-    on_image h s said r x wrote n number =
-        let is = sym test ∙ not-false q h in
-        let same = wrote.0 ∙ ap (λ (t : State). write_reply t (length out)) said in (
-          number ∙ ap (λ (a : SheetReply). answer_number a.answer) same ∙ sym (number_image (length out) is),
-          (
-            wrote.1 ∙ ap (λ (t : State). buffer_after t out) said ∙ sym (buffer_image out is),
-            ap (λ (a : SheetReply). a.length) same ∙ reply_length (state_in b) (length out) ∙ sym (need_image is),
-          ),
-        )
+      pub need_said : reply_length r ≡ need_on b
+      need_said = ap reply_length same ∙ reply_gives (state_in b) (length out) ∙ sym (need_image h)
+
+    pub buffer_said : (after : List ℕ) → after ≡ buffer_after s out → after ≡ buffer_on b out
+    buffer_said after wrote =
+        wrote ∙ ap (λ (t : State). buffer_after t out) said ∙ sym (buffer_image out h)
 
 -- a writing that is turned down leaves the buffer
 pub write_leaves : (b out : List ℕ) → write_number_on b (length out) ≢ 0 → buffer_on b out ≡ out
@@ -88,12 +75,12 @@ write_leaves b out n = elim (either (is_image b)) [
   | inr h ↦ buffer_other b out h
 ]
   where
-    go : (f : Option CallFault)
+    go : (f : Option WriteFault)
         → write_fault (state_in b) (length out) ≡ f
         → is_image b ≡ true
         → buffer_after (state_in b) out ≡ out
     go (some f) e h = buffer_fault (state_in b) out f e
-    go none e h = absurd (n (number_image b (length out) h ∙ reply_number (state_in b) (length out) e))
+    go none e h = absurd (n (number_image b (length out) h ∙ number_none (state_in b) (length out) e))
 
 -- calls keep the plan
 after_plan : (s : State) (cs : List Call) → Sized s → (after scheduler s cs).plan ≡ s.plan
@@ -114,7 +101,7 @@ hosts_sheet sheet s cs h =
       number = λ room.
           ap (λ (l : List ℕ). write_number_on l room) b
           ∙ number_image (image_of t) room (image_is t)
-          ∙ ap (λ (u : State). answer_number (write_reply u room).answer) said
+          ∙ ap (λ (u : State). reply_number (write_reply u room)) said
           ∙ sound_number t room yes
           ∙ ap (λ (p : Plan). cond (ltb room (sheet_length p)) 14 0) same;
       need =

@@ -1,127 +1,140 @@
--- Records put into a page one after another, and the room that is left for the next.
-use Prim.Native.Nat.{ℕ, ◌+◌, ◌*◌, ◌≤◌, ◌<◌}
+-- The records of what stands at a plan's places: one more, those of each kind, and those of a sheet.
+use Prim.Native.Nat.{ℕ, zero, suc, ◌+◌, ◌/◌, ◌%◌, ◌≤◌, ◌<◌}
+use native.Mathlib.Nat.{add-zero}
+use native.Mathlib.Numerals.{add-one}
 use native.Mathlib.Omega.{arith}
-use mathlib.Core.List.{List, [], ◌∷◌, ◌++◌}
-use mathlib.Core.Bool.{not}
-use mathlib.Core.Logic.{◌≢◌}
-use mathlib.Core.Path.{◌≡◌, sym, ◌∙◌, ap}
-use borrow.Author.Tests.{eq-eqb, ne_eqb}
-use lib.ListN.{length, get_or}
+use mathlib.Core.List.{List, [], ◌∷◌, ◌++◌, map, append_assoc, append-nil}
+use mathlib.Core.Path.{◌≡◌, refl, sym, ◌∙◌, ap}
+use lib.ListN.{length, get_or, take, drop, take-append-drop}
+use lib.Seq.{take-suc, length-take-le, get_or-take}
 use Rattle.plan.specs.Base.{tabulate, read_at}
-use Rattle.plan.specs.Plans.{blank_event, blank_rule, blank_window, event_count, rule_count}
+use Rattle.plan.specs.Plans.{blank_event, blank_rule, blank_window, event_count, rule_count, event_at}
+use Rattle.plan.specs.Calls.{bytes_of}
 use Rattle.plan.proofs.Arrays.{read_in}
-use Rattle.theory.proofs.Observation.{length_tabulate}
-use Rattle.pages.specs.Written.{Put}
-use Rattle.pages.proofs.Pages.{put_none, put_then, put_as, After, put_after}
-use Rattle.writer.specs.Types.{Event, Rule, RuleLine, Window, Plan}
-use Rattle.writer.specs.Writing.{event_record, rule_record, timed_record, window_record, sheet_bytes}
-use Rattle.writer.specs.Internal.Records.{event_records, rule_records, window_records}
-use Rattle.writer.proofs.Joining.{made_none, made_next, events_length, rule_few, rules_few, window_some, window_none, windows_none, windows_more, windows_few, sheet_parts}
+use Rattle.std.specs.Int.{to_le_bytes}
+use mir.Syntax.{w32}
+use Rattle.theory.proofs.Observation.{as_tabulate}
+use Rattle.writer.specs.Types.{Event, RuleLine, Window, Plan}
+use Rattle.writer.specs.Writing.{events_of, rules_of, windows_of, event_record, rule_record, window_record, window_bytes, joined, sheet_bytes}
+use Rattle.writer.specs.Internal.Records.{records}
+use Rattle.writer.proofs.Joining.{sheet_parts}
 
--- the events
-module _ (events : List Event) where
-  abbrev event : ℕ → Event
-  event e = read_at 16 events e blank_event
+module _ {A : Type 0} (f : ℕ → A → List ℕ) where
+  -- none, and one
+  pub records_none : (e : ℕ) → records f e [] ≡ []
+  unfolding records
+  records_none e = refl
 
-  pub events_none : (page : List ℕ) → Put page 0 (event_records events 0) page 0
-  events_none page = put_as (sym (made_none event_record event)) (put_none page 0)
+  records_one : (e : ℕ) (x : A) → records f e (x ∷ []) ≡ f e x
+  unfolding records
+  records_one e x = append-nil (f e x)
 
-  -- three bytes each
-  pub events_end : (n : ℕ) → length (event_records events n) ≡ 3 * n
-  events_end n = omega (arith, events_length (tabulate n 0 event), length_tabulate n 0 event)
+  -- in two parts
+  records_append : (e : ℕ) (xs ys : List A) → records f e (xs ++ ys) ≡ records f e xs ++ records f (e + length xs) ys
+  unfolding records
+  records_append e [] ys = ap (λ (k : ℕ). records f k ys) (sym (add-zero e))
+  records_append e (x ∷ xs) ys =
+      let later : suc e + length xs ≡ e + suc (length xs) = omega arith in
+      ap (λ (l : List ℕ). f e x ++ l) (records_append (suc e) xs ys)
+      ∙ sym (append_assoc (f e x) (records f (suc e) xs) (records f (suc e + length xs) ys))
+      ∙ ap (λ (k : ℕ). f e x ++ records f (suc e) xs ++ records f k ys) later
 
-  -- one more
-  pub events_next : {page mid after : List ℕ} {at end : ℕ} (i : ℕ)
-      → i < 16
-      → Put page 0 (event_records events i) mid at
-      → After mid at (event_record (get_or events i blank_event)) after end
-      → Put page 0 (event_records events (i + 1)) after end
-  events_next {page} {mid} {after} {at} {end} i lt p q =
-      let v = get_or events i blank_event in
-      let text = ap (λ (x : Event). event_records events i ++ event_record x) (sym (read_in 16 events i blank_event lt))
-      ∙ sym (made_next event_record event i) in
-      put_as text (put_then p (put_after mid at (event_record v) (omega (arith, p.ends, events_end i)) after end q))
+  module _ (xs : List A) (i : ℕ) (x : A) (lt : i < length xs) (is : x ≡ get_or xs i x) where
+    -- one more
+    pub records_next : records f 0 (take (i + 1) xs) ≡ records f 0 (take i xs) ++ f i x
+    records_next =
+        let here : 0 + length (take i xs) ≡ i = omega (arith, length-take-le i xs (omega arith)) in
+        rw (add-one i, take-suc xs i x lt)
+        (records_append 0 (take i xs) (get_or xs i x ∷ [])
+        ∙ ap (λ (y : A). records f 0 (take i xs) ++ records f (0 + length (take i xs)) (y ∷ [])) (sym is)
+        ∙ ap (λ (k : ℕ). records f 0 (take i xs) ++ records f k (x ∷ [])) here
+        ∙ ap (λ (l : List ℕ). records f 0 (take i xs) ++ l) (records_one i x))
 
--- a rule, of the form that a test told
-pub rule_put : (page : List ℕ) (at : ℕ) (after : List ℕ) (end : ℕ) {r q : Rule}
-    → r ≡ q
-    → at + 4 ≤ 320
-    → After page at (rule_record q) after end
-    → Put page at (rule_record r) after end
-rule_put page at after end {r} {q} e room h =
-    put_as (ap rule_record (sym e)) (put_after page at (rule_record q) (omega (arith, rule_few q)) after end h)
+    -- those before it, its own, and those after it
+    abbrev pub later : List ℕ
+    later = records f (0 + length (take (i + 1) xs)) (drop (i + 1) xs)
 
--- the rules
-module _ (rules : List RuleLine) where
-  abbrev rule : ℕ → Rule
-  rule i = (read_at 16 rules i blank_rule).rule
+    pub records_split : records f 0 xs ≡ records f 0 (take i xs) ++ (f i x ++ later)
+    records_split =
+        ap (records f 0) (sym (take-append-drop (i + 1) xs))
+        ∙ records_append 0 (take (i + 1) xs) (drop (i + 1) xs)
+        ∙ ap (λ (l : List ℕ). l ++ later) records_next
+        ∙ append_assoc (records f 0 (take i xs)) (f i x) later
 
-  pub rules_none : (page : List ℕ) (at : ℕ) → Put page at (rule_records rules 0) page at
-  rules_none page at = put_as (sym (made_none rule_record rule)) (put_none page at)
+-- the same, whatever the place
+records_joined : {A B : Type 0} (f : B → List ℕ) (g : A → B) (e : ℕ) (xs : List A)
+    → records (λ (k : ℕ) (x : A). f (g x)) e xs ≡ joined f (map g xs)
+unfolding records joined
+records_joined f g e [] = refl
+records_joined f g e (x ∷ xs) = ap (λ (l : List ℕ). f (g x) ++ l) (records_joined f g (suc e) xs)
 
-  -- at most four bytes each
-  pub rules_end : (n : ℕ) → length (rule_records rules n) ≤ 4 * n
-  rules_end n = omega (arith, rules_few (tabulate n 0 rule), length_tabulate n 0 rule)
+records_windows : (e : ℕ) (ws : List Window) → records window_record e ws ≡ window_bytes e ws
+unfolding records window_bytes
+records_windows e [] = refl
+records_windows e (w ∷ ws) = ap (λ (l : List ℕ). window_record e w ++ l) (records_windows (suc e) ws)
 
-  -- one more
-  pub rules_next : {page mid after : List ℕ} {at next end : ℕ} (i : ℕ)
-      → i < 16
-      → Put page at (rule_records rules i) mid next
-      → Put mid next (rule_record (get_or rules i blank_rule).rule) after end
-      → Put page at (rule_records rules (i + 1)) after end
-  rules_next i lt p q =
-      let text =
-      ap (λ (x : RuleLine). rule_records rules i ++ rule_record x.rule) (sym (read_in 16 rules i blank_rule lt))
-      ∙ sym (made_next rule_record rule i) in
-      put_as text (put_then p q)
+-- the first of an array's places, as the definitions read them
+front : {A : Type 0} (xs : List A) (n : ℕ) (d : A)
+    → length xs ≡ 16
+    → n ≤ 16
+    → take n xs ≡ tabulate n 0 (λ e. read_at 16 xs e d)
+front xs n d whole few =
+    as_tabulate n (take n xs) (λ e. read_at 16 xs e d) d
+    (length-take-le n xs (omega arith))
+    (λ k lt. get_or-take n xs k d lt ∙ sym (read_in 16 xs k d (omega arith)))
 
--- a window, and none
-module _ (page : List ℕ) (at e : ℕ) (w : Window) where
-  pub window_unput : w.until ≡ 0 → Put page at (window_record e w) page at
-  window_unput h = put_as (sym (window_none e w (ap not (eq-eqb w.until 0 h)))) (put_none page at)
+map_tabulate : {A B : Type 0} (f : A → B) (g : ℕ → A) (n i : ℕ) → map f (tabulate n i g) ≡ tabulate n i (λ k. f (g k))
+unfolding tabulate
+map_tabulate f g zero i = refl
+map_tabulate f g (suc n) i = ap (λ l. f (g i) ∷ l) (map_tabulate f g n (suc i))
 
-  pub window_put : (after : List ℕ) (end : ℕ)
-      → w.until ≢ 0
-      → at + 10 ≤ 320
-      → After page at (timed_record e w) after end
-      → Put page at (window_record e w) after end
-  window_put after end h room q =
-      put_as (sym (window_some e w (ap not (ne_eqb w.until 0 h)))) (put_after page at (timed_record e w) (omega arith) after end q)
+-- the parts of a sheet, as code puts them
+module _ (p : Plan) where
+  abbrev pub event_rows : List ℕ
+  event_rows = records (λ (e : ℕ) (v : Event). event_record v) 0 (take (event_count p) p.events)
 
--- the windows
-module _ (windows : List Window) where
-  abbrev window : ℕ → Window
-  window e = read_at 16 windows e blank_window
+  abbrev pub rule_rows : List ℕ
+  rule_rows = records (λ (i : ℕ) (l : RuleLine). rule_record l.rule) 0 (take (rule_count p) p.rules)
 
-  pub times_none : (page : List ℕ) (at : ℕ) → Put page at (window_records windows 0) page at
-  times_none page at = put_as (sym (windows_none window)) (put_none page at)
+  abbrev pub window_rows : List ℕ
+  window_rows = records window_record 0 (take (event_count p) p.windows)
 
-  -- at most ten bytes each
-  pub times_end : (n : ℕ) → length (window_records windows n) ≤ 10 * n
-  times_end n = omega (arith, windows_few 0 (tabulate n 0 window), length_tabulate n 0 window)
+  events_said : length p.events ≡ 16 → event_count p ≤ 16 → event_rows ≡ joined event_record (events_of p)
+  events_said whole few =
+      records_joined event_record (λ (v : Event). v) 0 (take (event_count p) p.events)
+      ∙ ap (λ (l : List Event). joined event_record (map (λ (v : Event). v) l))
+      (front p.events (event_count p) blank_event whole few)
+      ∙ ap (joined event_record) (map_tabulate (λ (v : Event). v) (λ e. event_at p e) (event_count p) 0)
 
-  -- one more
-  pub times_next : {page mid after : List ℕ} {at next end : ℕ} (i : ℕ)
-      → i < 16
-      → Put page at (window_records windows i) mid next
-      → Put mid next (window_record i (get_or windows i blank_window)) after end
-      → Put page at (window_records windows (i + 1)) after end
-  times_next i lt p q =
-      let text =
-      ap (λ (x : Window). window_records windows i ++ window_record i x) (sym (read_in 16 windows i blank_window lt))
-      ∙ sym (windows_more window i) in
-      put_as text (put_then p q)
+  rules_said : length p.rules ≡ 16 → rule_count p ≤ 16 → rule_rows ≡ joined rule_record (rules_of p)
+  rules_said whole few =
+      records_joined rule_record (λ (l : RuleLine). l.rule) 0 (take (rule_count p) p.rules)
+      ∙ ap (λ (l : List RuleLine). joined rule_record (map (λ (r : RuleLine). r.rule) l))
+      (front p.rules (rule_count p) blank_rule whole few)
+      ∙ ap (joined rule_record)
+      (map_tabulate (λ (l : RuleLine). l.rule) (λ i. read_at 16 p.rules i blank_rule) (rule_count p) 0)
 
--- a sheet, in its four parts
-pub sheet_put : (p : Plan) {page mid late last after : List ℕ} {n k m end : ℕ}
-    → event_count p ≤ 16
-    → rule_count p ≤ 16
-    → Put page 0 (event_records p.events (event_count p)) mid n
-    → Put mid n (rule_records p.rules (rule_count p)) late k
-    → Put late k (window_records p.windows (event_count p)) last m
-    → After last m (5 ∷ []) after end
-    → Put page 0 (sheet_bytes p) after end
-sheet_put p {page} {mid} {late} {last} {after} {n} {k} {m} {end} few_events few_rules e r t h =
-    let room : m + 1 ≤ 320 =
-    omega (arith, e.ends, r.ends, t.ends, events_end p.events (event_count p), rules_end p.rules (rule_count p), times_end p.windows (event_count p)) in
-    put_as (sym (sheet_parts p)) (put_then e (put_then r (put_then t (put_after last m (5 ∷ []) room after end h))))
+  windows_said : length p.windows ≡ 16 → event_count p ≤ 16 → window_rows ≡ window_bytes 0 (windows_of p)
+  windows_said whole few =
+      records_windows 0 (take (event_count p) p.windows)
+      ∙ ap (window_bytes 0) (front p.windows (event_count p) blank_window whole few)
+
+  -- the arrays have their places, and the counts are within them
+  pub record Whole : Type 0 where
+    pub events : length p.events ≡ 16
+    pub rules : length p.rules ≡ 16
+    pub windows : length p.windows ≡ 16
+    pub few_events : event_count p ≤ 16
+    pub few_rules : rule_count p ≤ 16
+
+  pub sheet_split : Whole → sheet_bytes p ≡ event_rows ++ (rule_rows ++ (window_rows ++ (5 ∷ [])))
+  sheet_split w =
+      sheet_parts p
+      ∙ sym (λ i. events_said w.events w.few_events i
+      ++ (rules_said w.rules w.few_rules i ++ (windows_said w.windows w.few_events i ++ (5 ∷ []))))
+
+-- a number's four bytes, as code writes them
+pub le_bytes : (n : ℕ) → n < 4294967296 → to_le_bytes w32 n ≡ bytes_of n
+le_bytes n h =
+    let last : n / 16777216 % 256 ≡ n / 16777216 = omega arith in
+    ap (λ (d : ℕ). n % 256 ∷ n / 256 % 256 ∷ n / 65536 % 256 ∷ d ∷ []) last

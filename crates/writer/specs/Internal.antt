@@ -1,2 +1,3 @@
 -- Definitions that only private functions' contracts cite: nothing here has to be believed.
 pub mod Records
+pub mod Tests

@@ -1,15 +1,14 @@
 -- The sheet of a kept state, 384 bytes. Bytes that are no image are answered with 12.
 use Rattle.std.specs.Prelude.{ℕ, cond, List, ◌≡◌, ltb}
 use Rattle.writer.specs.Types.{Call, State}
-use Rattle.plan.specs.Faults.{answer_number}
 use Rattle.pages.specs.Filled.{filled}
 use Rattle.image.specs.Layout.{image_of, state_in, is_image}
 use Rattle.image.specs.Calls.{images_after}
-use Rattle.writer.specs.Writing.{sheet_bytes, sheet_length, length_given, write_reply, buffer_after}
+use Rattle.writer.specs.Writing.{sheet_bytes, sheet_length, length_given, reply_number, write_reply, buffer_after}
 
 -- the number of a writing on the bytes of a kept state, with a lent buffer of `room` bytes (5.27)
 unfoldable pub write_number_on : List ℕ → ℕ → ℕ
-write_number_on b room = cond (is_image b) (answer_number (write_reply (state_in b) room).answer) 12
+write_number_on b room = cond (is_image b) (reply_number (write_reply (state_in b) room)) 12
 
 -- the length that it gives (5.27)
 unfoldable pub need_on : List ℕ → ℕ

@@ -12,9 +12,9 @@ pub use Rattle.plan.specs.declared.record.Record.{Record}
 pub use Rattle.plan.specs.declared.calls.Call.{Call}
 pub use Rattle.plan.specs.declared.calls.Call.TheVariants.{Submit, Close, Finish, Advance}
 pub use Rattle.plan.specs.declared.answer.CallFault.{CallFault}
-pub use Rattle.plan.specs.declared.answer.CallFault.TheVariants.{Unknown, AlreadyClosed, NotClosed, Incoherent, TooLong, NoRoom, Backward}
-pub use Rattle.plan.specs.declared.answer.Answer.{Answer}
-pub use Rattle.plan.specs.declared.answer.Answer.TheVariants.{Is, Made, TurnedDown}
+pub use Rattle.std.specs.declared.result.Result.{Result}
+pub use Rattle.std.specs.declared.result.Result.TheVariants.{Ok, Err}
 pub use Rattle.scheduler.specs.declared.state.State.{State}
 pub use Rattle.scheduler.specs.declared.reply.Reading.{Reading}
-pub use Rattle.writer.specs.declared.write.SheetReply.{SheetReply}
+pub use Rattle.writer.specs.declared.write.WriteFault.{WriteFault}
+pub use Rattle.writer.specs.declared.write.WriteFault.TheVariants.{Incoherent, NoRoom}

@@ -1,15 +1,16 @@
 -- A state written out as a sheet: what it declares, its bytes, and what a writing into a lent buffer gives.
 use Rattle.std.specs.Prelude.{ℕ, suc, ◌-◌, ◌≤◌, not, cond, List, [], ◌∷◌, ◌++◌, map, ◌≡◌, ltb, length, replicate}
-use Rattle.std.proofs.Math.Option.{Option, none, some}
+use Rattle.std.specs.declared.option.Option.{Option}
+use Rattle.std.specs.declared.option.Option.TheVariants.{None as none, Some as some}
 use Rattle.plan.specs.Base.{tabulate}
 use Rattle.plan.specs.Plans.{blank_event, blank_rule, blank_window, event_count, rule_count, event_at, rule_at, window_at, is_window}
 use Rattle.plan.specs.Calls.{bytes_of}
-use Rattle.plan.specs.Faults.{first_fault}
+use Rattle.plan.specs.Faults.{call_fault_number, first_fault}
 use Rattle.scheduler.specs.State.{first_state, fate_of}
 use Rattle.scheduler.specs.Coherent.{coherent}
 use Rattle.scheduler.specs.Sheet.{admitted, read_sheet}
 use Rattle.pages.specs.Filled.{filled}
-use Rattle.writer.specs.Types.{Open, Event, Rule, Order, Need, Conditional, RuleLine, Window, Plan, CallFault, Incoherent, NoRoom, Answer, Made, TurnedDown, State, SheetReply}
+use Rattle.writer.specs.Types.{Open, Event, Rule, Order, Need, Conditional, RuleLine, Window, Plan, CallFault, Result, Ok, Err, State, WriteFault, Incoherent, NoRoom}
 
 -- the events that a plan declares, in their order (2.10)
 abbrev pub events_of : Plan → List Event
@@ -64,23 +65,38 @@ sheet_length p = length (sheet_bytes p)
 abbrev pub length_given : State → ℕ
 length_given s = cond (coherent s) (sheet_length s.plan) 0
 
-abbrev pub answer_to : Option CallFault → Answer
-answer_to f = elim f [ some x ↦ TurnedDown x | none ↦ Made ]
+-- the fault of a call that a writing that is turned down answers with (10.9)
+abbrev pub call_fault : WriteFault → CallFault
+call_fault f = elim f [ Incoherent ↦ CallFault.Incoherent | NoRoom n ↦ CallFault.NoRoom ]
+
+-- the length that it gives (9.17)
+abbrev pub need_of : WriteFault → ℕ
+need_of f = elim f [ Incoherent ↦ 0 | NoRoom n ↦ n ]
+
+-- the answer, with the sheet's length if nothing turns the writing down
+abbrev pub answer_to : Option WriteFault → ℕ → Result ℕ WriteFault
+answer_to f n = elim f [ some x ↦ Err x | none ↦ Ok n ]
+
+-- its number, and the length that is given with it (9.17)
+abbrev pub reply_number : Result ℕ WriteFault → ℕ
+reply_number r = elim r [ Ok n ↦ 0 | Err f ↦ call_fault_number (call_fault f) ]
+
+abbrev pub reply_length : Result ℕ WriteFault → ℕ
+reply_length r = elim r [ Ok n ↦ n | Err f ↦ need_of f ]
 
 -- the answer if only the length is asked for; number 12 alone turns this down (9.17, 10.9)
-unfoldable pub length_reply : State → SheetReply
-length_reply s = record {
-  answer = answer_to (first_fault ((not (coherent s), Incoherent) ∷ []));
-  length = length_given s;
-}
+unfoldable pub length_reply : State → Result ℕ WriteFault
+length_reply s = answer_to (first_fault ((not (coherent s), Incoherent) ∷ [])) (sheet_length s.plan)
 
 -- why a writing is turned down: number 12, then number 14 if the lent buffer is shorter than the sheet (10.9)
-unfoldable pub write_fault : State → ℕ → Option CallFault
-write_fault s room = first_fault ((not (coherent s), Incoherent) ∷ (ltb room (sheet_length s.plan), NoRoom) ∷ [])
+unfoldable pub write_fault : State → ℕ → Option WriteFault
+write_fault s room =
+    let size = sheet_length s.plan in
+    first_fault ((not (coherent s), Incoherent) ∷ (ltb room size, NoRoom size) ∷ [])
 
 -- the answer of a writing (9.17)
-unfoldable pub write_reply : State → ℕ → SheetReply
-write_reply s room = record { answer = answer_to (write_fault s room); length = length_given s }
+unfoldable pub write_reply : State → ℕ → Result ℕ WriteFault
+write_reply s room = answer_to (write_fault s room) (sheet_length s.plan)
 
 -- the lent buffer after a writing: unchanged if it is turned down; else the sheet, and then the buffer's own bytes
 -- (9.18)

@@ -1,65 +1,78 @@
 // A state's sheet: its length, and its bytes in a lent buffer.
 ghost use Rattle.std.specs.Prelude.{◌≡◌, length};
-ghost use Rattle.writer.specs.Writing.{length_reply, write_reply, buffer_after};
-ghost use Rattle.writer.specs.Internal.Records.{refusal};
+ghost use Rattle.writer.specs.Writing.{call_fault, need_of, length_reply, write_reply, buffer_after};
+ghost use Rattle.writer.specs.Internal.Tests.{coherent_or_fault};
 
 use super::records::put_sheet;
-use pages::{MOST, fill};
-use plan::answer::{Answer, CallFault};
+use pages::{Page, fill};
+use plan::answer::CallFault;
 use scheduler::state::State;
 
-// What writing a sheet gives: whether it is accepted, and the sheet's length, also if the buffer is too short; 0 if the
-// state is not coherent, number 12.
+// Why a sheet is not written: the state is not coherent, number 12; or the buffer is shorter than the sheet, number 14,
+// which has this length.
 #[derive(Clone, Copy)]
-pub struct SheetReply {
-    pub answer: Answer,
-    pub length: usize,
+pub enum WriteFault {
+    Incoherent,
+    NoRoom(usize),
+}
+
+impl From<WriteFault> for CallFault {
+    ghost from_gives = { λ f c. c ≡ call_fault f };
+
+    fn from(fault: WriteFault) -> CallFault {
+        match fault {
+            WriteFault::Incoherent => CallFault::Incoherent,
+            WriteFault::NoRoom(_) => CallFault::NoRoom,
+        }
+    }
+}
+
+impl WriteFault {
+    // The length that the buffer has to have; 0 if the state is not coherent.
+    pub(crate) fn need(self) -> usize
+        ensures { result ≡ need_of self }
+    {
+        match self {
+            WriteFault::Incoherent => 0,
+            WriteFault::NoRoom(length) => length,
+        }
+    }
 }
 
 // The length of the state's sheet; nothing is written.
-pub fn sheet_length(state: State) -> SheetReply
+pub fn sheet_length(state: State) -> Result<usize, WriteFault>
     ensures { result ≡ length_reply state }
 {
-    if !state.is_coherent() {
-        return turn_down(CallFault::Incoherent, 0);
-    }
-    let mut page = [0u8; MOST];
-    let plan = state.plan;
-    let length = put_sheet(&mut page, plan);
-    SheetReply {
-        answer: Answer::Made,
-        length,
-    }
+    test_coherent(state)?;
+    let mut page = Page::new();
+    put_sheet(&mut page, state.plan);
+    Ok(page.text().len())
 }
 
-// Writes the state's sheet to the start of the buffer. If the state is not coherent, or the buffer is shorter than the
-// sheet, the buffer keeps its bytes.
-pub fn write_sheet(state: State, out: &mut [u8]) -> SheetReply
+// Writes the state's sheet to the start of the buffer and answers its length. If the state is not coherent, or the
+// buffer is shorter than the sheet, the buffer keeps its bytes.
+pub fn write_sheet(state: State, out: &mut [u8]) -> Result<usize, WriteFault>
     ensures reply { result ≡ write_reply state (length out.old) }
     ensures bytes { out.new ≡ buffer_after state out.old }
 {
-    if !state.is_coherent() {
-        return turn_down(CallFault::Incoherent, 0);
+    test_coherent(state)?;
+    let mut page = Page::new();
+    put_sheet(&mut page, state.plan);
+    let sheet = page.text();
+    if out.len() < sheet.len() {
+        return Err(WriteFault::NoRoom(sheet.len()));
     }
-    let mut page = [0u8; MOST];
-    let plan = state.plan;
-    let length = put_sheet(&mut page, plan);
-    if out.len() < length {
-        return turn_down(CallFault::NoRoom, length);
-    }
-    fill(&page[..length], out);
-    SheetReply {
-        answer: Answer::Made,
-        length,
-    }
+    fill(sheet, out);
+    Ok(sheet.len())
 }
 
-// A writing that is turned down.
-fn turn_down(fault: CallFault, length: usize) -> SheetReply
-    ensures { result ≡ refusal fault length }
+// Number 12 is the one fault that a state has by itself.
+fn test_coherent(state: State) -> Result<(), WriteFault>
+    ensures { result ≡ coherent_or_fault state }
 {
-    SheetReply {
-        answer: Answer::TurnedDown(fault),
-        length,
+    if state.is_coherent() {
+        Ok(())
+    } else {
+        Err(WriteFault::Incoherent)
     }
 }

@@ -1,30 +1,20 @@
--- A batch's verdict, an entry's turn and a kept state, as the code has them.
-use Rattle.std.specs.Prelude.{ℕ, true, false, cond, List}
-use Rattle.std.proofs.Math.Option.{Option, none, some}
-use Rattle.batch.specs.Types.{CallFault, Made, TurnedDown, State, Reply, BatchEntry, Answered, Judged}
+-- An entry's turn and a kept state, as the code has them.
+use Rattle.std.specs.Prelude.{ℕ, cond, List}
+use Rattle.std.specs.declared.option.Option.TheVariants.{None as none, Some as some}
+use Rattle.batch.specs.Types.{State, BatchEntry}
 use Rattle.plan.specs.Plans.{rule_count}
 use Rattle.scheduler.specs.State.{line_count}
 use Rattle.scheduler.specs.Answers.{take_call}
 use Rattle.image.specs.Layout.{state_in, is_image}
 use Rattle.batch.specs.Batch.{asked_by, carrying, carries}
 
--- what a fault, or none, comes to
-abbrev pub verdict_of : Option CallFault → Judged
-verdict_of x = elim x [
-  | some f ↦ record { taken = false; answer = TurnedDown f }
-  | none ↦ record { taken = true; answer = Made }
-]
+-- the state after an entry's turn, number 12 tested
+unfoldable pub turn : State → BatchEntry → State
+turn s e = elim (asked_by e) [ some c ↦ (take_call s c).state | none ↦ s ]
 
--- a call's state, and the entry with its answer
-abbrev pub single : BatchEntry → Reply → Answered
-single e r = record { state = r.state; entry = carries e r.answer }
-
--- an entry's turn, number 12 tested
-unfoldable pub turn : State → BatchEntry → Answered
-turn s e = elim (asked_by e) [
-  | some c ↦ single e (take_call s c)
-  | none ↦ record { state = s; entry = carrying e 2 0 }
-]
+-- the entry after it
+unfoldable pub turned : State → BatchEntry → BatchEntry
+turned s e = elim (asked_by e) [ some c ↦ carries e (take_call s c).answer | none ↦ carrying e 2 0 ]
 
 -- a state that fails number 12, by its number of events
 abbrev pub overfull : State → State

@@ -1,5 +1,5 @@
 -- Rows of bytes written one after another over bytes, and what a plan and a state write.
-use Rattle.std.specs.Prelude.{ℕ, zero, suc, ◌+◌, Bool, false, List, [], ◌∷◌, get_or, set}
+use Rattle.std.specs.Prelude.{ℕ, zero, suc, ◌≡◌, ◌+◌, ◌*◌, Bool, false, List, [], ◌∷◌, get_or, set}
 use Rattle.image.specs.Types.{Event, RuleLine, Window, Standing, Plan, Entry, State}
 use Rattle.plan.specs.Base.{one_if}
 use Rattle.plan.specs.Fates.{fate_number, blank_standing}
@@ -12,6 +12,16 @@ use Rattle.image.specs.Layout.{step_at, attributes_at, kind_at, a_at, b_at, c_at
 unfoldable pub put_to : ℕ → (ℕ → ℕ) → List ℕ → ℕ → List ℕ
 put_to at g l zero = l
 put_to at g l (suc n) = set (put_to at g l n) (at + n) (g n)
+
+-- m is l with g of the first n elements of a row in the places from `at` on, where each call on an element x gives g x
+abbrev pub IsRowPut : {T : Type 0} → (T → ℕ → Type 0) → ℕ → List T → ℕ → List ℕ → List ℕ → Type 0
+IsRowPut {T} calls at row n l m =
+    (g : T → ℕ) (d : T) → ((x : T) (y : ℕ) → calls x y → y ≡ g x) → m ≡ put_to at (λ i. g (get_or row i d)) l n
+
+-- the same with the four bytes of each number
+abbrev pub IsWordRowPut : {T : Type 0} → (T → ℕ → Type 0) → ℕ → List T → ℕ → List ℕ → List ℕ → Type 0
+IsWordRowPut {T} calls at row n l m =
+    (g : T → ℕ) (d : T) → ((x : T) (y : ℕ) → calls x y → y ≡ g x) → m ≡ put_to at (row_byte (λ i. g (get_or row i d))) l (4 * n)
 
 -- a row to be written: where it begins, its length, and its bytes
 pub record Row : Type 0 where

@@ -1,17 +1,18 @@
--- A list under way: what the calls that are left come to, and bytes that are finishes in a row.
-use Rattle.std.specs.Prelude.{ℕ, ◌+◌, ◌≤◌, ◌<◌, true, List, ◌≡◌, length, get_or, drop}
+-- A list under way: what the calls that are left come to, and how bytes list calls.
+use Rattle.std.specs.Prelude.{ℕ, ◌+◌, ◌≤◌, true, List, Ok, ◌≡◌, length, drop}
 use Rattle.plan.specs.Base.{one_if}
-use Rattle.plan.specs.Calls.{Decoded}
+use Rattle.plan.specs.Calls.{Decoded, first_call}
+use Rattle.plan.proofs.CallDecoding.{Decodes}
 use Rattle.scheduler.specs.State.{Sized}
 use Rattle.scheduler.specs.Coherent.{coherent}
 use Rattle.scheduler.specs.Lists.{scheduler, after, turned_down}
 use Rattle.scheduler.specs.Runner.{ran_on}
-use Rattle.lists.specs.Types.{State, Admitted, Outcome}
+use Rattle.lists.specs.Types.{Call, CallRead, Listed, State, Outcome}
 
 -- the outcome of a list's calls from a state, with n calls turned down before them
 abbrev pub outcome_from : State → ℕ → Decoded → Outcome
 outcome_from s n d = record {
-  verdict = Admitted;
+  verdict = Ok tt;
   state = after scheduler s d.calls;
   refused = n + (turned_down s d.calls + one_if d.cut);
 }
@@ -25,6 +26,8 @@ pub record Underway (decoding : List ℕ → Decoded) (s : State) (b : List ℕ)
   pub passes : coherent t ≡ true
   pub sized : Sized t
 
--- the bytes from an offset up to another are finishes
-abbrev pub Finishes : List ℕ → ℕ → ℕ → Type 0
-Finishes b from past = (i : ℕ) → from ≤ i → i < past → get_or b i 0 ≡ 18
+-- how bytes list calls: the reading of their first record, and the calls that they list by it. What the runner's
+-- records hold is read alike
+pub record IsCodec (first : List ℕ → CallRead) (decoding : List ℕ → Decoded) : Type 0 where
+  pub decodes : Decodes first decoding
+  pub keeps : (b : List ℕ) (c : Call) → first_call b ≡ Listed c → first b ≡ Listed c

@@ -1,23 +1,12 @@
--- `fill` meets its contract. The loop's invariant: the text's first i bytes are copied.
-use Prim.Native.Nat.{ℕ}
-use native.Mathlib.Omega.{arith}
-use mathlib.Core.List.{List}
-use mathlib.Core.Path.{◌∙◌, ap}
-use lib.ListN.{get_or, set, length-set}
-use Rattle.pages.proofs.Copied.{filled_short, copy_next, copy_all}
+-- `fill` meets its contract.
+use Rattle.std.proofs.Common.{List, ℕ, ◌++◌, length, drop, sym, arith, ap, ◌∙◌}
+use Rattle.pages.proofs.Texts.{filled_short, filled_fits}
 use Rattle.pages.proofs.fill.Goals as goal
 
 pub returns-then-out-text : goal.returns-then-out-text
-returns-then-out-text c = filled_short _ _ c.if-out-text.true
-
-pub loop-i-preserved : goal.loop-i-preserved
-loop-i-preserved c = let byte = get_or c.args.text.now c.loop-i.i 0 in (
-  omega arith,
-  ap (λ (l : List ℕ). set l c.loop-i.i byte) c.loop-i.invariant.1
-      ∙ copy_next _ _ c.if-out-text.false c.loop-i.i c.loop-i-test.true,
-  length-set c.loop-i.out c.loop-i.i byte ∙ c.loop-i.invariant.2,
-)
+returns-then-out-text c = filled_short _ _ (omega arith)
 
 pub returns : goal.returns
-returns c = c.loop-i.invariant.1
-    ∙ copy_all _ _ c.if-out-text.false c.loop-i.i c.loop-i.invariant.0 c.loop-i-test.false
+returns c =
+    ap (λ (l : List ℕ). l ++ drop (length c.args.text.now) c.args.out.now) c.copy_from_slice.ensures.after
+    ∙ sym (filled_fits _ _ c.if-out-text.false)

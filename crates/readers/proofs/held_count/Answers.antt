@@ -1,22 +1,20 @@
 -- `held_count` meets its contract.
-use mathlib.Core.Path.{◌≡◌, sym, ◌∙◌, ap}
-use Rattle.plan.specs.Fates.{blank_standing, is_held, fates_of}
+use Rattle.std.proofs.Common.{◌∙◌, take, refl, rules, tests}
+use Rattle.std.proofs.lemmas.Iterator.{YieldsList-from_slice, YieldsList-from_take}
+use Rattle.std.proofs.lemmas.Iterator.Consumers.{YieldsList-at, YieldsList-from_filter, count_from_yields_List}
+use Rattle.std.proofs.lemmas.List.Sums.{length-filter}
+use Rattle.plan.specs.Fates.{blank_standing, is_held}
 use Rattle.plan.specs.declared.fate.Standing.{Standing}
-use Rattle.plan.proofs.Arrays.{read_in, read_past}
-use Rattle.plan.proofs.Loops.{count_start, count_next}
+use Rattle.readers.proofs.Places.{count_is}
 use Rattle.readers.proofs.held_count.Goals as goal
-use Rattle.readers.proofs.held_count.Goals.{else-i-lt16, then-i-lt16}
 
-pub loop-i-init : goal.loop-i-init
-loop-i-init c = count_start _ _
-
--- what the code is told of event c.loop-i.i
-told : (c : goal.Joined-i-lt16) → c.if-i-lt16.is ≡ is_held (fates_of c.args.state.standings c.loop-i.i)
-told c =
-    elim c.if-i-lt16.branch [
-      | then-i-lt16 w ↦ w.is-is ∙ w.is_held-is.ensures ∙ ap (λ (v : Standing). is_held v.fate) (sym (read_in 16 c.args.state.standings c.loop-i.i blank_standing w.if-i-lt16.true))
-      | else-i-lt16 w ↦ w.is-is ∙ ap (λ (v : Standing). is_held v.fate) (sym (read_past 16 c.args.state.standings c.loop-i.i blank_standing w.if-i-lt16.false))
-    ]
-
-pub loop-i-preserved : goal.loop-i-preserved
-loop-i-preserved c = count_next _ _ c.loop-i.count c.loop-i.i c.if-i-lt16.is c.loop-i.invariant c.loop-i-test.true (told c)
+pub returns : goal.returns
+returns c =
+    let s = c.args.state in
+    let places = YieldsList-at c.take.ensures.source (YieldsList-from_slice s.standings cc) in
+    let first = YieldsList-from_take s.plan.event_count places (cc) in
+    count_from_yields_List c.filter.result _ c.count.ensures.ran
+    (YieldsList-from_filter _ (λ (s : Standing). is_held s.fate) (YieldsList-at c.filter.ensures.source first)
+    c.filter.ensures.closure (λ x r q k. search (rules, tests)))
+    ∙ length-filter (λ (s : Standing). is_held s.fate) (take s.plan.event_count s.standings)
+    ∙ count_is (λ (s : Standing). is_held s.fate) s.standings blank_standing (search rules) refl s.plan.event_count

@@ -1,18 +1,16 @@
 -- `read_fate` meets its contract.
-use borrow.Author.Tests.{lt-ltb, le-ltb}
-use Rattle.plan.specs.Fates.{fates_of}
-use Rattle.scheduler.specs.State.{fate_of}
+use Rattle.std.proofs.Common.{◌≡◌, ◌∙◌, ap, option_map, rules}
+use Rattle.plan.specs.Fates.{blank_standing}
+use Rattle.plan.specs.declared.fate.Standing.{Standing}
 use Rattle.readers.specs.Readers.{fate_read}
+use Rattle.readers.proofs.Places.{declared_is, map_cond}
 use Rattle.readers.proofs.read_fate.Goals as goal
 
-pub returns-then-plan-event : goal.returns-then-plan-event
+pub returns : goal.returns
 unfolding fate_read
-returns-then-plan-event c = simp (fate_read, le-ltb _ _ c.if-plan-event.true)
-
-pub returns-then-event-lt16 : goal.returns-then-event-lt16
-unfolding fate_read
-returns-then-event-lt16 c = simp (fate_read, fate_of, fates_of, lt-ltb _ _ c.if-plan-event.false, lt-ltb _ _ c.if-event-lt16.true)
-
-pub returns-else-event-lt16 : goal.returns-else-event-lt16
-unfolding fate_read
-returns-else-event-lt16 c = simp (fate_read, lt-ltb _ _ c.if-plan-event.false, le-ltb _ _ c.if-event-lt16.false)
+returns c =
+    let e : c.map.result ≡ option_map (λ (s : Standing). s.fate) c.declared.result = search rules in
+    let found = c.declared.ensures ∙ declared_is c.args.state.standings _ _ blank_standing (search rules) in
+    e
+    ∙ ap (option_map (λ (s : Standing). s.fate)) found
+    ∙ map_cond (λ (s : Standing). s.fate) _ _

@@ -1,17 +1,16 @@
 -- `read_rule` meets its contract.
-use borrow.Author.Tests.{lt-ltb, le-ltb}
-use Rattle.plan.specs.Plans.{rule_at}
+use Rattle.std.proofs.Common.{◌≡◌, ◌∙◌, ap, option_map, rules}
+use Rattle.plan.specs.Plans.{blank_rule}
+use Rattle.plan.specs.declared.rule.RuleLine.{RuleLine}
 use Rattle.readers.specs.Readers.{rule_read}
+use Rattle.readers.proofs.Places.{declared_is, map_cond}
 use Rattle.readers.proofs.read_rule.Goals as goal
 
-pub returns-then-plan-rule : goal.returns-then-plan-rule
+pub returns : goal.returns
 unfolding rule_read
-returns-then-plan-rule c = simp (rule_read, le-ltb _ _ c.if-plan-rule.true)
-
-pub returns-then-rule-lt16 : goal.returns-then-rule-lt16
-unfolding rule_read
-returns-then-rule-lt16 c = simp (rule_read, rule_at, lt-ltb _ _ c.if-plan-rule.false, lt-ltb _ _ c.if-rule-lt16.true)
-
-pub returns-else-rule-lt16 : goal.returns-else-rule-lt16
-unfolding rule_read
-returns-else-rule-lt16 c = simp (rule_read, lt-ltb _ _ c.if-plan-rule.false, le-ltb _ _ c.if-rule-lt16.false)
+returns c =
+    let e : c.map.result ≡ option_map (λ (l : RuleLine). l.rule) c.declared.result = search rules in
+    let found = c.declared.ensures ∙ declared_is c.args.state.plan.rules _ _ blank_rule (search rules) in
+    e
+    ∙ ap (option_map (λ (l : RuleLine). l.rule)) found
+    ∙ map_cond (λ (l : RuleLine). l.rule) _ _

@@ -1,5 +1,5 @@
--- The loop over a journal's records: what is left comes to the whole; and bytes that are finishes in a row.
-use Rattle.std.specs.Prelude.{ℕ, ◌≤◌, ◌<◌, true, List, ◌≡◌, length, get_or, drop}
+-- The loop over a journal's records: what is left comes to the whole.
+use Rattle.std.specs.Prelude.{ℕ, ◌≤◌, true, List, ◌≡◌, length, drop}
 use Rattle.scheduler.specs.declared.state.State.{State}
 use Rattle.scheduler.specs.State.{Sized}
 use Rattle.scheduler.specs.Coherent.{coherent}
@@ -13,7 +13,3 @@ pub record Underway (s : State) (b : List ℕ) (from : ℕ) (t : State) (at : �
   pub same : opened_at at (length b) (run calls t (drop at b)) ≡ opened_at from (length b) (run calls s (drop from b))
   pub passes : coherent t ≡ true
   pub sized : Sized t
-
--- the bytes from an offset up to another are finishes
-abbrev pub Finishes : List ℕ → ℕ → ℕ → Type 0
-Finishes b from past = (i : ℕ) → from ≤ i → i < past → get_or b i 0 ≡ 18

@@ -1,6 +1,6 @@
 -- The texts of a report's parts.
 use Rattle.std.specs.Prelude.{ℕ, List, ◌∷◌, ◌++◌}
-use Rattle.report.specs.Types.{Fate, Held, Refused, SheetFault, Entry, State}
+use Rattle.report.specs.Types.{Fate, Held, Refused, Refusal, Entry, State}
 use Rattle.plan.specs.Plans.{event_count, rule_count}
 use Rattle.scheduler.specs.State.{lines}
 use Rattle.plan.specs.Faults.{sheet_fault_number}
@@ -27,5 +27,5 @@ state_text s refused =
     ++ history_lines (lines s)
     ++ tail (held_count s) (broken_count s) refused
 
-unfoldable pub fault_line : SheetFault → ℕ → List ℕ
-fault_line f at = line (fate_word Refused ␣ decimal (sheet_fault_number f) ␣ at_word ␣ decimal at)
+unfoldable pub refusal_line : Refusal → List ℕ
+refusal_line e = line (fate_word Refused ␣ decimal (sheet_fault_number e.fault) ␣ at_word ␣ decimal e.at)

@@ -1,22 +1,20 @@
 -- What the functions below `read_sheet` answer, over the definitions of `plan` and `scheduler`.
-use Rattle.std.specs.Prelude.{ℕ, ◌+◌, Bool, true, false, not, ◌&&◌, ◌||◌, [], ◌∷◌, eqb, ltb}
-use Rattle.std.proofs.Math.Option.{Option, none, some}
+use Rattle.std.specs.Prelude.{ℕ, ◌≡◌, ◌+◌, Bool, List, length, not, ◌&&◌, ◌||◌, [], ◌∷◌, eqb, ltb, Option, None as none, Some as some, Result, Ok, Err}
 use Rattle.plan.specs.Plans.{event_count, rule_count}
 use Rattle.plan.specs.Rules.{bad_step, bad_attributes, bad_window, named, enforceable}
-use Rattle.plan.specs.Faults.{first_fault}
-use Rattle.plan.specs.Records.{new_events, new_rules, is_rule, rule_of, add_window, add_events, table1, record_fault}
+use Rattle.plan.specs.Faults.{first_fault, refusal}
+use Rattle.plan.specs.Records.{new_events, new_rules, is_rule, rule_of, record_at, record_fault}
+use Rattle.plan.specs.Sheets.{PlanReading, whole, faulty}
 use Rattle.scheduler.specs.State.{first_state, empty_state}
-use Rattle.sheet.specs.Types.{Event, Rule, RuleLine, Plan, Record, SheetFault, BadStep, BadAttributes, BadNames, Unenforceable, Extra, BadWindow, Verdict, Admitted, Faulty, Reading, Check, Fine, Bad, Judged}
+use Rattle.sheet.specs.Types.{Rule, Plan, Record, SheetFault, BadStep, BadAttributes, BadNames, Unenforceable, BadWindow, Refusal, Reading, Kind}
+use Rattle.sheet.specs.Internal.Records.{number_of}
 
--- row 3; rows 6 and 7 of a rule; the rows from 4 on
+-- row 3
 abbrev pub is_full : Plan → ℕ → Bool
 is_full p k = ltb 16 (event_count p + new_events k) || ltb 16 (rule_count p + new_rules k)
 
-unfoldable pub rule_fault : Plan → Rule → Option SheetFault
-rule_fault p r =
-    first_fault ((not (named (event_count p) r), BadNames) ∷ (not (enforceable p r), Unenforceable) ∷ [])
-
-unfoldable pub body_fault : Plan → Record → Option SheetFault
+-- the rows from 4 on, and those of a record of kind 6, of kind 1, of a rule and of a window
+abbrev pub body_fault : Plan → Record → Option SheetFault
 body_fault p r =
     first_fault (
     ((eqb r.kind 1 || eqb r.kind 6) && bad_step r.x, BadStep)
@@ -26,48 +24,40 @@ body_fault p r =
     ∷ (eqb r.kind 7 && bad_window p r.x r.from r.until, BadWindow)
     ∷ [])
 
+abbrev pub step_fault : ℕ → Option SheetFault
+step_fault k = first_fault ((bad_step k, BadStep) ∷ [])
+
+abbrev pub event_fault : ℕ → ℕ → Option SheetFault
+event_fault k a = first_fault ((bad_step k, BadStep) ∷ (bad_attributes a, BadAttributes) ∷ [])
+
+abbrev pub rule_fault : Plan → Rule → Option SheetFault
+rule_fault p r =
+    first_fault ((not (named (event_count p) r), BadNames) ∷ (not (enforceable p r), Unenforceable) ∷ [])
+
+abbrev pub window_fault : Plan → Record → Option SheetFault
+window_fault p r = first_fault ((bad_window p r.x r.from r.until, BadWindow) ∷ [])
+
 -- a check's answer: the first fault, or none
-abbrev pub check_of : Option SheetFault → Check
-check_of none = Fine
-check_of (some f) = Bad f
+abbrev pub check_of : Option SheetFault → Result Unit SheetFault
+check_of none = Ok tt
+check_of (some f) = Err f
 
-abbrev pub verdict_of : Check → ℕ → Verdict
-verdict_of Fine at = Admitted
-verdict_of (Bad f) at = Faulty f at
+-- what a sheet declares, or why it is turned down
+abbrev pub plan_of : PlanReading → Result Plan Refusal
+plan_of (whole p at) = Ok p
+plan_of (faulty f at) = Err (refusal f at)
 
--- what a record of kind 1 declares, and what one of kind 2, 3 or 4 does
-abbrev pub event_of : Record → Event
-event_of r = record { step = r.x; attributes = r.y }
+-- the record at an offset has no fault, and is of this kind; or it turns the sheet down
+pub record IsFine (p : Plan) (b : List ℕ) (at : ℕ) (k : Kind) (r : Record) : Type 0 where
+  pub read : r ≡ record_at b at
+  pub kind : number_of k ≡ r.kind
+  pub fine : record_fault p (length b) at r ≡ none
 
-abbrev pub line_of : Record → RuleLine
-line_of r = record { rule = rule_of r }
+pub record IsFaulty (p : Plan) (b : List ℕ) (at : ℕ) (e : Refusal) : Type 0 where
+  pub place : e.at ≡ at
+  pub fault : record_fault p (length b) at (record_at b at) ≡ some e.fault
 
--- what a record of kind 6 or 7 declares
-unfoldable pub add_more : Plan → Record → Plan
-add_more p r = elim (eqb r.kind 6) [
-  | true ↦ add_events p r.x table1
-  | false ↦ add_window p r.x r.from r.until
-]
-
--- bytes after kind 5
-abbrev pub end_verdict : ℕ → ℕ → Verdict
-end_verdict len at = elim (ltb (at + 1) len) [ true ↦ Faulty Extra (at + 1) | false ↦ Admitted ]
-
-abbrev pub stop : Verdict → Judged
-stop v = record { stops = true; verdict = v }
-
-abbrev pub go_on : Judged
-go_on = record { stops = false; verdict = Admitted }
-
--- the record at an offset of a sheet of some length: a fault and kind 5 end the reading
-unfoldable pub judge : Plan → ℕ → ℕ → Record → Judged
-judge p len at r = elim (record_fault p len at r) [
-  | some f ↦ stop (Faulty f at)
-  | none ↦ elim (eqb r.kind 5) [ true ↦ stop (end_verdict len at) | false ↦ go_on ]
-]
-
-unfoldable pub reading_of : Verdict → Plan → Reading
-reading_of v p = elim v [
-  | Admitted ↦ record { verdict = Admitted; state = first_state p }
-  | Faulty f at ↦ record { verdict = Faulty f at; state = empty_state }
-]
+-- an admitted sheet gives its first state, a sheet turned down the empty state
+abbrev pub reading_of : Result Plan Refusal → Reading
+reading_of (Ok p) = record { verdict = Ok tt; state = first_state p }
+reading_of (Err e) = record { verdict = Err e; state = empty_state }

@@ -1,15 +1,13 @@
 -- `judge` meets its contract.
-use native.Mathlib.Omega.{arith}
-use Rattle.batch.proofs.Verdicts.{judged_incoherent, judged_long, judged_taken}
-use mathlib.Core.Bool.{not}
-use mathlib.Core.Path.{ap}
+use Rattle.std.proofs.Common.{sym, lt-ltb, le-ltb}
+use Rattle.batch.proofs.Verdicts.{fault_incoherent, fault_long, fault_none}
 use Rattle.batch.proofs.batch.judge.Goals as goal
 
 pub returns-then-not-is_coherent : goal.returns-then-not-is_coherent
-returns-then-not-is_coherent c = judged_incoherent _ _ _ c.is_coherent.ensures (ap not c.if-not-is_coherent.true)
+returns-then-not-is_coherent c = fault_incoherent _ _ (sym c.if-not-is_coherent.ensures)
 
-pub returns-then-count-gt64 : goal.returns-then-count-gt64
-returns-then-count-gt64 c = judged_long _ _ _ c.is_coherent.ensures (ap not c.if-not-is_coherent.false) (omega (arith, c.if-count-gt64.true))
+pub returns-then-count-gt-MOST : goal.returns-then-count-gt-MOST
+returns-then-count-gt-MOST c = fault_long _ _ (sym c.if-not-is_coherent.ensures) (lt-ltb _ _ c.if-count-gt-MOST.true)
 
 pub returns : goal.returns
-returns c = judged_taken _ _ _ c.is_coherent.ensures (ap not c.if-not-is_coherent.false) (omega (arith, c.if-count-gt64.false))
+returns c = fault_none _ _ (sym c.if-not-is_coherent.ensures) (le-ltb _ _ c.if-count-gt-MOST.false)

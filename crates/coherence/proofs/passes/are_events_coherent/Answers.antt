@@ -19,13 +19,11 @@ returns-then-is_settled-listed c = λ h told.
     (rw (c.is_settled.ensures, c.may_be_held.ensures, c.is_open.ensures) at c.if-is_settled-listed.true))
 
 pub loop-i-preserved : goal.loop-i-preserved
-loop-i-preserved c = (
-  omega arith,
-  below_more _ _ c.loop-i.invariant.1
-      (passes_both c.args.plan.events c.args.standings c.args.closed c.args.listed c.loop-i.i
-      (not-false _ (rw c.is_sound.ensures at (ap not c.if-not-is_sound.false)))
-      (rw (c.is_settled.ensures, c.may_be_held.ensures, c.is_open.ensures) at c.if-is_settled-listed.false)),
-)
+loop-i-preserved c =
+    below_more _ _ c.loop-i.invariant
+    (passes_both c.args.plan.events c.args.standings c.args.closed c.args.listed c.loop-i.i
+    (not-false _ (rw c.is_sound.ensures at (ap not c.if-not-is_sound.false)))
+    (rw (c.is_settled.ensures, c.may_be_held.ensures, c.is_open.ensures) at c.if-is_settled-listed.false))
 
 pub returns : goal.returns
-returns c = λ h told. sym (events_pass c.args.plan c.args.standings c.args.closed c.args.listed h c.requires told (λ k lt. c.loop-i.invariant.1 k (omega arith)))
+returns c = λ h told. sym (events_pass c.args.plan c.args.standings c.args.closed c.args.listed h c.requires told (λ k lt. c.loop-i.invariant k (omega arith)))

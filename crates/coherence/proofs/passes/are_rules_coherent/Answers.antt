@@ -41,4 +41,4 @@ returns-then-not-broken-i c = λ closed h placed pass.
 pub returns : goal.returns
 returns c = λ closed h placed pass.
     sym (rules_pass c.args.plan (fates_of c.args.standings) c.args.broken closed h c.requires.1 pass
-    (λ k lt. c.loop-i.invariant.1 c.args.plan h refl placed k (omega arith)))
+    (λ k lt. c.loop-i.invariant h placed k (omega arith)))

@@ -8,4 +8,4 @@ pub returns-then-not-is_right : goal.returns-then-not-is_right
 returns-then-not-is_right c = sym (window_wrong c.args.plan c.loop-e.e c.loop-e-test.true (sym c.is_right.ensures ∙ c.if-not-is_right.true))
 
 pub returns : goal.returns
-returns c = sym (windows_right c.args.plan (λ e lt. c.loop-e.invariant.1 e (omega arith)))
+returns c = sym (windows_right c.args.plan (λ e lt. c.loop-e.invariant e (omega arith)))

@@ -1,29 +1,45 @@
 -- `does_cohere` meets its contract.
-use borrow.Author.Tests.{not-true, not-false}
 use mathlib.Core.Bool.{Bool, ◌&&◌}
-use mathlib.Core.Path.{sym, ◌∙◌, ap₂}
+use mathlib.Core.Path.{sym, ◌∙◌, ap}
 use lib.ListN.{take}
 use Rattle.plan.specs.Fates.{fates_of}
-use Rattle.coherence.proofs.CoherentTests.{many_fail, lines_fail, events_fail, rules_decide}
-use mathlib.Core.Bool.{not}
-use mathlib.Core.Path.{ap}
+use Rattle.plan.specs.Rules.{sound_windows}
+use Rattle.plan.proofs.Tests.{clash}
+use Rattle.coherence.proofs.CoherentTests.{many_events, many_rules, many_lines, lines_fail, events_fail, rules_decide}
 use Rattle.coherence.proofs.passes.does_cohere.Goals as goal
+use Rattle.coherence.proofs.passes.does_cohere.Goals.{then-are_events_coherent, else-are_events_coherent, then-plan-gt16-via-then-plan-gt16, then-plan-gt16-via-else-plan-gt16+then-plan-gt16-2, then-plan-gt16-via-else-plan-gt16+else-plan-gt16-2+then-len-gt16}
 
-pub returns-then-not-event_count-rule_count : goal.returns-then-not-event_count-rule_count
-returns-then-not-event_count-rule_count c = sym (many_fail c.args.plan c.args.len (fates_of c.args.standings) c.args.broken c.args.closed (take c.args.len c.args.history) (ap not c.if-not-event_count-rule_count.true))
+pub returns-then-plan-gt16 : goal.returns-then-plan-gt16
+returns-then-plan-gt16 c = sym (elim c.then-plan-gt16.branch [
+  | then-plan-gt16-via-then-plan-gt16 w ↦ many_events c.args.plan c.args.len (fates_of c.args.standings) c.args.broken c.args.closed (take c.args.len c.args.history) w.if-plan-gt16.true
+  | then-plan-gt16-via-else-plan-gt16+then-plan-gt16-2 w ↦ many_rules c.args.plan c.args.len (fates_of c.args.standings) c.args.broken c.args.closed (take c.args.len c.args.history) w.if-plan-gt16-2.true
+  | then-plan-gt16-via-else-plan-gt16+else-plan-gt16-2+then-len-gt16 w ↦ many_lines c.args.plan c.args.len (fates_of c.args.standings) c.args.broken c.args.closed (take c.args.len c.args.history) w.if-len-gt16.true
+])
 
-pub returns-then-not-listing : goal.returns-then-not-listing
-returns-then-not-listing c = sym (lines_fail c.args.plan c.args.len (fates_of c.args.standings) c.args.broken c.args.closed (take c.args.len c.args.history)
-    (c.list_events-listing.ensures.fails (not-true _ c.if-not-listing.true)))
+pub returns-in_default : goal.returns-in_default
+returns-in_default c = sym (lines_fail c.args.plan c.args.len (fates_of c.args.standings) c.args.broken c.args.closed (take c.args.len c.args.history) c.in_default.ensures)
 
-pub returns-then-not-are_events_coherent : goal.returns-then-not-are_events_coherent
-returns-then-not-are_events_coherent c = let told = c.list_events-listing.ensures.passes (not-false _ c.if-not-listing.false) in
-    sym (events_fail c.args.plan c.args.len (fates_of c.args.standings) c.args.broken c.args.closed (take c.args.len c.args.history)
-    (not-true _ (rw (c.are_events_coherent.ensures _ told.events) at (ap not c.if-not-are_events_coherent.true))))
+pub returns-then-are_rules_coherent : goal.returns-then-are_rules_coherent
+returns-then-are_rules_coherent c = elim c.if-are_events_coherent.branch [
+  | then-are_events_coherent w ↦
+      let told = c.in-Some.ensures in
+      let pass = sym (c.are_events_coherent.ensures _ told.events) ∙ w.if-are_events_coherent.true in
+      let rules = sym (w.are_rules_coherent.ensures _ _ told.placed pass) ∙ sym w.value-is ∙ c.if-are_rules_coherent.true in
+      c.are_windows_sound.ensures
+      ∙ ap (λ (b : Bool). b && sound_windows c.args.plan) (sym rules)
+      ∙ sym (rules_decide c.args.plan c.args.len (fates_of c.args.standings) c.args.broken c.args.closed (take c.args.len c.args.history)
+      c.if-plan-gt16.false c.if-plan-gt16-2.false c.if-len-gt16.false told.declared pass)
+  | else-are_events_coherent w ↦ absurd (clash c.if-are_rules_coherent.true (w.value-is ∙ w.if-are_events_coherent.false))
+]
 
-pub returns : goal.returns
-returns c = let told = c.list_events-listing.ensures.passes (not-false _ c.if-not-listing.false) in
-    let pass = not-false _ (rw (c.are_events_coherent.ensures _ told.events) at (ap not c.if-not-are_events_coherent.false)) in
-    ap₂ (λ (a b : Bool). a && b) (c.are_rules_coherent.ensures _ _ told.placed pass) c.are_windows_sound.ensures
-    ∙ sym (rules_decide c.args.plan c.args.len (fates_of c.args.standings) c.args.broken c.args.closed (take c.args.len c.args.history)
-    (ap not c.if-not-event_count-rule_count.false) told.declared pass)
+pub returns-else-are_rules_coherent : goal.returns-else-are_rules_coherent
+returns-else-are_rules_coherent c = let told = c.in-Some.ensures in c.if-are_rules_coherent.false ∙ sym (elim c.if-are_events_coherent.branch [
+  | then-are_events_coherent w ↦
+      let pass = sym (c.are_events_coherent.ensures _ told.events) ∙ w.if-are_events_coherent.true in
+      rules_decide c.args.plan c.args.len (fates_of c.args.standings) c.args.broken c.args.closed (take c.args.len c.args.history)
+      c.if-plan-gt16.false c.if-plan-gt16-2.false c.if-len-gt16.false told.declared pass
+      ∙ ap (λ (b : Bool). b && sound_windows c.args.plan) (sym (w.are_rules_coherent.ensures _ _ told.placed pass) ∙ sym w.value-is ∙ c.if-are_rules_coherent.false)
+  | else-are_events_coherent w ↦
+      events_fail c.args.plan c.args.len (fates_of c.args.standings) c.args.broken c.args.closed (take c.args.len c.args.history)
+      (sym (c.are_events_coherent.ensures _ told.events) ∙ w.if-are_events_coherent.false)
+])

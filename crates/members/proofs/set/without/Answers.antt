@@ -3,4 +3,4 @@ use Rattle.members.proofs.Bits.{in_less}
 use Rattle.members.proofs.set.without.Goals as goal
 
 pub returns : goal.returns
-returns c = in_less _ _
+returns c x = in_less _ _ x c.ranges.other.fits

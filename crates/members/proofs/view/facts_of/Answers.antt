@@ -10,14 +10,14 @@ loop-e-preserved c = viewed_next _ _ _ _ _ _ _ _ _ c.loop-e.invariant c.loop-e-t
     _ _ _ _ _ _
     _ _ _ _ _ _
     c.is_held.ensures
-    c.with_if-held.ensures
+    c.with_if.ensures
     c.is_open.ensures
-    c.with_if-comes.ensures
+    c.with_if-in-loop-e.ensures
     c.is_gone.ensures
-    c.with_if-gone.ensures
+    c.with_if-in-loop-e-2.ensures
     c.is_delayable.ensures
-    c.with_if-waits.ensures
+    c.with_if-in-loop-e-3.ensures
     c.is_forcible.ensures
-    c.with_if-forcible.ensures
+    c.with_if-in-loop-e-4.ensures
     c.is_rejectable.ensures
-    c.with_if-refusable.ensures
+    c.with_if-in-loop-e-5.ensures

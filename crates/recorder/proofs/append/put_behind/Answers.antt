@@ -1,5 +1,6 @@
 -- `put_behind` meets its contract.
-use Rattle.recorder.proofs.AppendSteps.{no_room, has_room_lem}
+use mathlib.Core.Path.{◌∙◌}
+use Rattle.recorder.proofs.AppendSteps.{no_room, has_room}
 use Rattle.recorder.proofs.append.put_behind.Goals as goal
 
 pub returns-then-buffer-end : goal.returns-then-buffer-end
@@ -9,5 +10,6 @@ returns-then-buffer-end c =
 
 pub returns : goal.returns
 returns c =
-    let said = has_room_lem _ _ _ c.requires _ c.record_of-record.ensures _ c.if-buffer-end.false c.put_record.ensures in
+    let put = c.copy_from_slice.ensures.after ∙ c.as_slice.ensures in
+    let said = has_room _ _ _ c.requires _ c.record_of-record.ensures _ c.if-buffer-end.false put in
     record { answer = said.answer; bytes = said.bytes }

@@ -9,9 +9,9 @@ slice_bounds-read_sheet-end c = sym (length-take-le _ _ (end_fits _ _ c.requires
 
 pub open_records-requires : goal.open_records-requires
 open_records-requires c = record {
-  hangs = starts _ _ c.requires _ c.read_sheet-reading.ensures;
+  hangs = starts _ _ c.requires _ c.read_sheet.ensures;
   inside = end_fits _ _ c.requires;
 }
 
 pub returns : goal.returns
-returns c = opens_rest _ _ c.requires _ c.read_sheet-reading.ensures _ c.open_records.ensures
+returns c = opens_rest _ _ c.requires _ c.read_sheet.ensures _ c.open_records.ensures

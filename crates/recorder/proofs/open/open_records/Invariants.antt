@@ -5,7 +5,7 @@ use Rattle.recorder.specs.Internal.Underway.{Underway}
 use Rattle.recorder.proofs.open.open_records.Given as goal
 
 abbrev pub invariant-loop-made : goal.invariant-loop-made
-invariant-loop-made l = Underway l.initial.next l.bytes l.from l.next l.at
+invariant-loop-made l = Underway l.initial.state l.bytes l.from l.state l.at
 
 abbrev pub decreases-loop-made : goal.decreases-loop-made
 decreases-loop-made l = length l.bytes - l.at

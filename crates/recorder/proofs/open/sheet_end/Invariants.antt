@@ -1,10 +1,7 @@
--- `sheet_end` meets its contract. The loop stays within the bytes.
-use Prim.Native.Nat.{◌-◌, ◌≤◌}
+-- `sheet_end` meets its contract.
+use Prim.Native.Nat.{◌-◌}
 use lib.ListN.{length}
 use Rattle.recorder.proofs.open.sheet_end.Given as goal
 
-abbrev pub invariant-loop-at : goal.invariant-loop-at
-invariant-loop-at l = l.at ≤ length l.bytes
-
-abbrev pub decreases-loop-at : goal.decreases-loop-at
-decreases-loop-at l = length l.bytes - l.at
+abbrev pub decreases-loop-kind : goal.decreases-loop-kind
+decreases-loop-kind l = length l.bytes - l.at

@@ -1,23 +1,46 @@
 -- `put_decimal` meets its contract.
-use Rattle.std.proofs.Common.{sym, arith}
-use Rattle.pages.proofs.Pages.{put_byte, put_then, put_as}
-use Rattle.report.proofs.Digits.{decimal_one, decimal_more, length_one, length_more}
+use Rattle.std.proofs.Common.{[], ◌∷◌, ◌+◌, ◌%◌, ◌/◌, append-nil, sym, ◌∙◌, arith}
+use Rattle.scheduler.specs.Runner.{decimal}
+use Rattle.pages.proofs.Texts.{room_first, put_last}
+use Rattle.report.proofs.Digits.{decimal_low, decimal_more}
 use Rattle.report.proofs.page.+put_decimal.Goals as goal
+use Rattle.report.proofs.page.+put_decimal.Goals.{then-x-ge10, else-x-ge10}
 
-pub bounds-page-at : goal.bounds-page-at
-bounds-page-at t c = omega (arith, length_one c.args.x c.if-x-lt10.true)
-
-pub returns-then-x-lt10 : goal.returns-then-x-lt10
-returns-then-x-lt10 t c = put_as (sym (decimal_one _ c.if-x-lt10.true)) (put_byte _ _ _)
-
-pub put_decimal-next-requires : goal.put_decimal-next-requires
-put_decimal-next-requires t c = (omega arith, omega (arith, length_more c.args.x c.if-x-lt10.false))
-
-pub bounds-page-next : goal.bounds-page-next
-bounds-page-next t c = omega (arith, length_more c.args.x c.if-x-lt10.false)
-
-pub overflow_add-result-2 : goal.overflow_add-result-2
-overflow_add-result-2 t c = omega (arith, length_more c.args.x c.if-x-lt10.false)
+pub put_decimal-requires : goal.put_decimal-requires
+put_decimal-requires t c = (
+  omega arith,
+  room_first
+      _
+      (decimal c.args.x)
+      (decimal (c.args.x / 10))
+      ((48 + c.args.x % 10) ∷ [])
+      (decimal_more _ c.if-x-ge10.true)
+      c.requires,
+)
 
 pub returns : goal.returns
-returns t c = put_as (sym (decimal_more _ c.if-x-lt10.false)) (put_then c.put_decimal-next.ensures (put_byte _ _ _))
+returns t c =
+    let x = c.args.x in
+    let digit = (48 + x % 10) ∷ [] in
+    elim c.if-x-ge10.branch [
+      | then-x-ge10 w ↦
+          put_last
+          _
+          (decimal x)
+          (decimal (x / 10))
+          digit
+          (decimal_more x w.if-x-ge10.true)
+          c.requires _
+          (w.page-is ∙ w.put_decimal.ensures) _
+          c.push.ensures
+      | else-x-ge10 w ↦
+          put_last
+          _
+          (decimal x)
+          []
+          digit
+          (decimal_low x w.if-x-ge10.false)
+          c.requires _
+          (w.page-is ∙ sym (append-nil _)) _
+          c.push.ensures
+    ]

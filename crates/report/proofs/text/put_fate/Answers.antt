@@ -1,39 +1,22 @@
 -- `put_fate` meets its contract.
-use Rattle.report.proofs.Splits.{fate_put}
+use Rattle.std.proofs.Common.{◌∙◌}
+use Rattle.pages.proofs.Texts.{text_put}
 use Rattle.report.proofs.text.put_fate.Goals as goal
 
 pub returns-in-Open : goal.returns-in-Open
-returns-in-Open c = fate_put _ _ _ _
-    c.in-Open.is
-    c.requires
-    (c.put_bytes.ensures.end, c.put_bytes.ensures.page)
+returns-in-Open c = rw c.in-Open.is (c.put.ensures ∙ text_put _ _ (rw c.in-Open.is at c.requires))
 
 pub returns-in-Held : goal.returns-in-Held
-returns-in-Held c = fate_put _ _ _ _
-    c.in-Held.is
-    c.requires
-    (c.put_bytes-in-Held.ensures.end, c.put_bytes-in-Held.ensures.page)
+returns-in-Held c = rw c.in-Held.is (c.put-in-Held.ensures ∙ text_put _ _ (rw c.in-Held.is at c.requires))
 
 pub returns-in-Done : goal.returns-in-Done
-returns-in-Done c = fate_put _ _ _ _
-    c.in-Done.is
-    c.requires
-    (c.put_bytes-in-Done.ensures.end, c.put_bytes-in-Done.ensures.page)
+returns-in-Done c = rw c.in-Done.is (c.put-in-Done.ensures ∙ text_put _ _ (rw c.in-Done.is at c.requires))
 
 pub returns-in-Refused : goal.returns-in-Refused
-returns-in-Refused c = fate_put _ _ _ _
-    c.in-Refused.is
-    c.requires
-    (c.put_bytes-in-Refused.ensures.end, c.put_bytes-in-Refused.ensures.page)
+returns-in-Refused c = rw c.in-Refused.is (c.put-in-Refused.ensures ∙ text_put _ _ (rw c.in-Refused.is at c.requires))
 
 pub returns-in-Lapsed : goal.returns-in-Lapsed
-returns-in-Lapsed c = fate_put _ _ _ _
-    c.in-Lapsed.is
-    c.requires
-    (c.put_bytes-in-Lapsed.ensures.end, c.put_bytes-in-Lapsed.ensures.page)
+returns-in-Lapsed c = rw c.in-Lapsed.is (c.put-in-Lapsed.ensures ∙ text_put _ _ (rw c.in-Lapsed.is at c.requires))
 
 pub returns-in-Forced : goal.returns-in-Forced
-returns-in-Forced c = fate_put _ _ _ _
-    c.in-Forced.is
-    c.requires
-    (c.put_bytes-in-Forced.ensures.end, c.put_bytes-in-Forced.ensures.page)
+returns-in-Forced c = rw c.in-Forced.is (c.put-in-Forced.ensures ∙ text_put _ _ (rw c.in-Forced.is at c.requires))

@@ -1,24 +1,33 @@
--- `put_history` meets its contract. The loop's invariant: the lines before i are put.
-use native.Mathlib.Omega.{arith}
-use mathlib.Core.Path.{sym}
-use Rattle.pages.proofs.Pages.{put_none, put_then, put_as}
-use Rattle.report.proofs.Splits.{lines_none, lines_next, lines_room}
+-- `put_history` meets its contract. The loop's invariant: the lines before this one are put.
+use Rattle.std.proofs.Common.{List, ℕ, ◌++◌, ◌+◌, get_or, take, drop, append-nil, append_assoc, sym, ap, ◌∙◌}
+use Rattle.plan.specs.Histories.{blank_entry}
+use Rattle.scheduler.specs.Runner.{history_lines}
+use Rattle.pages.proofs.Texts.{room_second}
+use Rattle.report.specs.Internal.Texts.{entry_line}
+use Rattle.report.proofs.Splits.{lines_none, lines_next, lines_split}
 use Rattle.report.proofs.text.put_history.Goals as goal
 
-pub loop-i-init : goal.loop-i-init
-loop-i-init c = (omega arith, put_as (sym (lines_none c.args.history)) (put_none _ _))
+pub loop-entry-init : goal.loop-entry-init
+loop-entry-init c = sym (ap (λ (l : List ℕ). c.args.page.now ++ l) lines_none ∙ append-nil _)
 
-pub put_entry-next-requires : goal.put_entry-next-requires
-put_entry-next-requires c = lines_room
-    c.args.history
-    c.args.len
-    c.well_formed.1.1.0.1.0.1
-    c.args.at _
-    c.loop-i.i
-    (omega arith)
-    c.requires
-    c.loop-i.invariant.1.ends
+pub put_entry-requires : goal.put_entry-requires
+put_entry-requires c =
+    let i = c.loop-entry.entry-index in
+    room_second
+    _ _
+    (history_lines (take i c.args.entries.now))
+    (entry_line (get_or c.args.entries.now i blank_entry))
+    (history_lines (drop (i + 1) c.args.entries.now))
+    (lines_split c.args.entries.now i c.loop-entry-test.true)
+    c.requires _
+    c.loop-entry.invariant
 
-pub loop-i-preserved : goal.loop-i-preserved
-loop-i-preserved c = let next = lines_next c.args.history c.args.len c.well_formed.1.1.0.1.0.1 c.loop-i.i (omega arith) in
-    (omega arith, put_as (sym next) (put_then c.loop-i.invariant.1 c.put_entry-next.ensures))
+pub loop-entry-preserved : goal.loop-entry-preserved
+loop-entry-preserved c =
+    let i = c.loop-entry.entry-index in
+    let entries = c.args.entries.now in
+    let line = entry_line (get_or entries i blank_entry) in
+    c.put_entry.ensures
+    ∙ ap (λ (l : List ℕ). l ++ line) c.loop-entry.invariant
+    ∙ append_assoc c.args.page.now (history_lines (take i entries)) line
+    ∙ ap (λ (l : List ℕ). c.args.page.now ++ l) (sym (lines_next entries i c.loop-entry-test.true))

@@ -1,114 +1,93 @@
--- `search` meets its contract. What falls: the places left.
+-- `search` meets its contract.
 use native.Mathlib.Omega.{arith}
-use mathlib.Core.Path.{◌≡◌, refl, ◌∙◌, ap}
-use Prim.Native.Nat.{ℕ}
+use mathlib.Core.Path.{sym, ◌∙◌, ap}
+use Rattle.std.specs.declared.option.Option.{Option}
+use Rattle.std.specs.declared.option.Option.TheVariants.{Some as some}
 use Rattle.scheduler.specs.declared.order.Found.{Found}
 use Rattle.scheduler.specs.Prelude.{Fate}
 use Rattle.plan.specs.Fates.{is_open, done_as}
-use Rattle.scheduler.specs.State.{fate_of, settle_as}
-use Rattle.scheduler.specs.Orders.{do_one}
-use Rattle.scheduler.proofs.Sizes.{sized}
-use Rattle.scheduler.proofs.SearchLoops.{with_event, search_end, search_more, search_full, search_stuck, Took, search_took, shows_one}
-use Rattle.scheduler.proofs.CallSteps.{fate_in}
+use Rattle.orders.proofs.Lowest.{lowest_some}
+use Rattle.scheduler.specs.State.{fate_of, settle_as, Sized}
+use Rattle.scheduler.proofs.SearchLoops.{with_event, lowest_missing, ground_one, search_end, search_more, search_full, search_stuck, search_took}
 use Rattle.scheduler.proofs.order.+search.Goals as goal
+use Rattle.scheduler.proofs.order.+search.Goals.{then-is_some+in_ok-found, else-is_some}
 
-pub returns-then-lowest_of-eq16 : goal.returns-then-lowest_of-eq16
-returns-then-lowest_of-eq16 t c = c.blank_order.ensures ∙ search_end c.args.s c.args.left c.args.at c.args.places c.lowest_of.result c.lowest_of.ensures c.if-lowest_of-eq16.true
+pub returns-then-is_none : goal.returns-then-is_none
+returns-then-is_none t c =
+    ap {B = Option Found} some c.blank_order.ensures
+    ∙ search_end c.args.s.now c.args.left c.args.at c.args.places (sym c.lowest_of.ensures ∙ lowest_missing _ c.if-is_none.ensures)
 
 pub returns-then-places-eq0 : goal.returns-then-places-eq0
-returns-then-places-eq0 t c = let more = search_more c.args.s c.args.left c.args.at c.args.places c.lowest_of.result c.lowest_of.ensures c.if-lowest_of-eq16.false in
-    c.blank_order-none.ensures ∙ search_full c.args.s c.args.left c.args.at c.args.places more c.if-places-eq0.true
+returns-then-places-eq0 t c =
+    search_full c.args.s.now c.args.left c.args.at c.args.places
+    (search_more c.args.s.now c.args.left c.args.at c.args.places (rw c.lowest_of.ensures at c.if-is_none.ensures))
+    c.if-places-eq0.true
 
--- where an event is taken: what the code reads of it, and what taking it gives
-told : (t : ℕ) (c : goal.After-view_after t) → c.is_open-opened.result ≡ is_open (fate_of c.args.s c.lowest_of-x.result)
-told t c = fate_in c.args.s c.lowest_of-x.result c.is_open-opened.result c.if-x-lt16.true c.is_open-opened.ensures
-
-took : (t : ℕ) (c : goal.After-view_after t)
-    → Took c.args.s c.args.left c.args.at c.args.places c.lowest_of-x.result c.is_open-opened.result c.without-rest.result
-took t c =
-    let s = c.args.s in
-    search_took s c.args.left c.args.at c.args.places
-    c.blocked_in.result
-    c.without.result
-    (c.blocked_in.ensures s.plan (fate_of s) refl refl c.requires.1)
+pub returns-in_err-x : goal.returns-in_err-x
+returns-in_err-x t c =
+    let s = c.args.s.now in
+    c.from_residual.ensures
+    ∙ search_stuck s c.args.left c.args.at c.args.places _ _
+    (c.blocked.ensures s.plan s.broken (fate_of s) c.requires.grounds)
     c.without.ensures
-    (search_more s c.args.left c.args.at c.args.places c.lowest_of.result c.lowest_of.ensures c.if-lowest_of-eq16.false)
+    (search_more s c.args.left c.args.at c.args.places (rw c.lowest_of.ensures at c.if-is_none.ensures))
     c.if-places-eq0.false
-    c.lowest_of-x.result
-    c.lowest_of-x.ensures
-    (sized s c.well_formed.0)
-    c.if-x-lt16.true
-    c.with_if.result
-    c.without-rest.result
-    c.with_if.ensures
-    c.without-rest.ensures
-    c.is_open-opened.result
-    (told t c)
+    (sym c.in_err-x.ensures)
 
--- the same where the event is the last
-told_last : (t : ℕ) (c : goal.After-blank_order-last t) → c.is_open-opened.result ≡ is_open (fate_of c.args.s c.lowest_of-x.result)
-told_last t c = fate_in c.args.s c.lowest_of-x.result c.is_open-opened.result c.if-x-lt16.true c.is_open-opened.ensures
-
-took_last : (t : ℕ) (c : goal.After-blank_order-last t)
-    → Took c.args.s c.args.left c.args.at c.args.places c.lowest_of-x.result c.is_open-opened.result c.without-rest.result
-took_last t c =
-    let s = c.args.s in
-    search_took s c.args.left c.args.at c.args.places
-    c.blocked_in.result
-    c.without.result
-    (c.blocked_in.ensures s.plan (fate_of s) refl refl c.requires.1)
-    c.without.ensures
-    (search_more s c.args.left c.args.at c.args.places c.lowest_of.result c.lowest_of.ensures c.if-lowest_of-eq16.false)
-    c.if-places-eq0.false
-    c.lowest_of-x.result
-    c.lowest_of-x.ensures
-    (sized s c.well_formed.0)
-    c.if-x-lt16.true
-    c.with_if.result
-    c.without-rest.result
-    c.with_if.ensures
-    c.without-rest.ensures
-    c.is_open-opened.result
-    (told_last t c)
-
--- the state after it
-made : (t : ℕ) (c : goal.After-view_after t) → c.settle_as-next.result ≡ do_one c.args.s c.lowest_of-x.result
-made t c =
-    c.settle_as-next.ensures
-    ∙ ap (λ (x : Fate). settle_as x c.args.s c.lowest_of-x.result) (c.done_as.ensures ∙ ap done_as (told t c))
-
-pub search-r-requires : goal.search-r-requires
-search-r-requires t c =
-    let s = c.args.s in
-    let lt = c.if-x-lt16.true in
-    let shown = c.view_after.ensures s.plan (fate_of s) lt c.requires.1 in
-    let z = sized s c.well_formed.0 in (
+pub search-requires : goal.search-requires
+search-requires t c =
+    let s = c.args.s.now in
+    let x = c.in_ok-x.x in
+    let z : Sized s = record { standings_len = omega arith; broken_len = omega arith; closed_len = omega arith; history_len = omega arith } in
+    let lt = (lowest_some 16 _ x (sym c.in_ok-x.ensures)).below in
+    let told = c.is_open-opened.ensures ∙ ap is_open c.fate.ensures in
+    let made = c.settle_as.ensures ∙ ap (λ (f : Fate). settle_as f s x) (c.done_as.ensures ∙ ap done_as told) in (
       omega (arith, c.if-places-eq0.false),
-      (omega (arith, c.requires.0, c.if-places-eq0.false), rw (made t c) (shows_one s c.lowest_of-x.result c.view_after.result z lt shown)),
+      (
+        omega (arith, c.requires.fits, c.if-places-eq0.false),
+        rw made (ground_one s x c.after.result z lt (c.after.ensures s.plan s.broken (fate_of s) lt c.requires.grounds)),
+      ),
     )
 
-pub returns-then-lowest_of-eq16-2 : goal.returns-then-lowest_of-eq16-2
-returns-then-lowest_of-eq16-2 t c =
-    ap (λ (w : Found). with_event w c.args.at c.lowest_of-x.result c.is_open-opened.result) c.blank_order-last.ensures
-    ∙ (took_last t c).last c.lowest_of-then-x-lt16.result c.lowest_of-then-x-lt16.ensures c.if-lowest_of-eq16-2.true
-
-pub returns-then-r : goal.returns-then-r
-returns-then-r t c =
-    ((took t c.before.before).on c.search-r.result (rw (made t c.before.before) at c.search-r.ensures)).hit c.if-r.true
-
-pub returns-else-r : goal.returns-else-r
-returns-else-r t c =
-    c.blank_order-none.ensures
-    ∙ ((took t c.before.before).on c.search-r.result (rw (made t c.before.before) at c.search-r.ensures)).miss c.if-r.false
-
-pub returns-else-x-lt16 : goal.returns-else-x-lt16
-returns-else-x-lt16 t c = c.blank_order-none.ensures ∙ search_stuck c.args.s c.args.left c.args.at c.args.places
-    c.blocked_in.result
-    c.without.result
-    (c.blocked_in.ensures c.args.s.plan (fate_of c.args.s) refl refl c.requires.1)
+pub returns-in_err-found : goal.returns-in_err-found
+returns-in_err-found t c =
+    let s = c.args.s.now in
+    let x = c.in_ok-x.x in
+    let told = c.is_open-opened.ensures ∙ ap is_open c.fate.ensures in
+    let made = c.settle_as.ensures ∙ ap (λ (f : Fate). settle_as f s x) (c.done_as.ensures ∙ ap done_as told) in
+    let z : Sized s = record { standings_len = omega arith; broken_len = omega arith; closed_len = omega arith; history_len = omega arith } in
+    let took = search_took s c.args.left c.args.at c.args.places _ _
+    (c.blocked.ensures s.plan s.broken (fate_of s) c.requires.grounds)
     c.without.ensures
-    (search_more c.args.s c.args.left c.args.at c.args.places c.lowest_of.result c.lowest_of.ensures c.if-lowest_of-eq16.false)
+    (search_more s c.args.left c.args.at c.args.places (rw c.lowest_of.ensures at c.if-is_none.ensures))
     c.if-places-eq0.false
-    c.lowest_of-x.result
-    c.lowest_of-x.ensures
-    (λ lt. omega (arith, c.if-x-lt16.false))
+    x
+    (sym c.in_ok-x.ensures)
+    z
+    _ _ c.with_if.ensures c.without-rest.ensures _ told in
+    c.from_residual-in_err-found.ensures ∙ took.miss (rw made at c.in_err-found.ensures)
+
+pub returns : goal.returns
+returns t c =
+    let s = c.args.s.now in
+    let x = c.in_ok-x.x in
+    let z : Sized s = record { standings_len = omega arith; broken_len = omega arith; closed_len = omega arith; history_len = omega arith } in
+    let told = c.is_open-opened.ensures ∙ ap is_open c.fate.ensures in
+    let took = search_took s c.args.left c.args.at c.args.places _ _
+    (c.blocked.ensures s.plan s.broken (fate_of s) c.requires.grounds)
+    c.without.ensures
+    (search_more s c.args.left c.args.at c.args.places (rw c.lowest_of.ensures at c.if-is_none.ensures))
+    c.if-places-eq0.false
+    x
+    (sym c.in_ok-x.ensures)
+    z
+    _ _ c.with_if.ensures c.without-rest.ensures _ told in
+    elim c.if-is_some.branch [
+      | then-is_some+in_ok-found w ↦
+          let made = w.settle_as.ensures ∙ ap (λ (f : Fate). settle_as f s x) (w.done_as.ensures ∙ ap done_as told) in
+          ap (λ (r : Found). some (with_event r c.args.at x c.is_open-opened.result)) w.found-is
+          ∙ took.hit _ (rw made at w.in_ok-found.ensures)
+      | else-is_some w ↦
+          ap (λ (r : Found). some (with_event r c.args.at x c.is_open-opened.result)) (w.found-is ∙ c.blank_order-found.ensures)
+          ∙ took.last (sym c.lowest_of-3.ensures ∙ lowest_missing _ (sym w.if-is_some.ensures))
+    ]

@@ -16,6 +16,6 @@ returns c =
     let said =
     reported c.args.state.now c.args.out.now c.args.refused _
     c.is_sound.ensures (ap not c.if-not-is_sound.false) _
-    c.state_in-kept.ensures _ _
+    c.state_in.ensures _ _
     (c.write_report.ensures.length, (c.write_report.ensures.bytes, c.write_report.ensures.short)) in
     record { length = said.0; bytes = said.1.0; short = said.1.1 }

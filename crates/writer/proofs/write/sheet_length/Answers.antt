@@ -1,28 +1,24 @@
--- `sheet_length` meets its contract.
-use native.Mathlib.Nat.{zero-add}
-use mathlib.Core.Path.{◌∙◌}
-use Rattle.writer.proofs.Replies.{counts_few, length_12, length_given_lem}
-use mathlib.Core.Bool.{not}
-use mathlib.Core.Path.{ap}
+-- `sheet_length` meets its contract: the page has room for the sheet.
+use Rattle.std.proofs.Common.{List, ℕ, ◌++◌, ap, ◌∙◌}
+use Rattle.std.proofs.lemmas.Result.{err_from_is_err_and}
+use Rattle.writer.specs.Writing.{sheet_bytes}
+use Rattle.writer.proofs.Replies.{length_12, counts_few, sheet_room, length_said}
 use Rattle.writer.proofs.write.sheet_length.Goals as goal
 
-pub returns-then-not-is_coherent : goal.returns-then-not-is_coherent
-returns-then-not-is_coherent c = length_12
-    c.args.state
-    c.is_coherent.result
-    c.is_coherent.ensures
-    (ap not c.if-not-is_coherent.true) _
-    c.turn_down.ensures
+pub returns-in_err-test_coherent : goal.returns-in_err-test_coherent
+returns-in_err-test_coherent c =
+    let p = err_from_is_err_and c.from_residual.result c.from_residual.ensures.1 in
+    rw (p.1, p.2) (length_12 c.args.state _ c.test_coherent.ensures _ c.in_err-test_coherent.was)
 
-pub put_sheet-length-requires : goal.put_sheet-length-requires
-put_sheet-length-requires c =
-    let few = counts_few c.args.state c.is_coherent.result c.is_coherent.ensures (ap not c.if-not-is_coherent.false) in
-    record { events = few.0; rules = few.1 }
+pub put_sheet-requires : goal.put_sheet-requires
+put_sheet-requires c =
+    let found = c.test_coherent.ensures in
+    let was = c.in_ok-test_coherent.was in
+    let few = counts_few c.args.state _ found _ was in
+    record { events = few.0; rules = few.1; room = rw c.new-page.ensures (sheet_room c.args.state _ found _ was) }
 
 pub returns : goal.returns
-returns c = length_given_lem
-    c.args.state
-    c.is_coherent.result
-    c.is_coherent.ensures
-    (ap not c.if-not-is_coherent.false) _
-    (c.put_sheet-length.ensures.ends ∙ zero-add _)
+returns c =
+    let bytes = sheet_bytes c.args.state.plan in
+    let sheet = c.text.ensures ∙ c.put_sheet.ensures ∙ ap (λ (l : List ℕ). l ++ bytes) c.new-page.ensures in
+    length_said c.args.state _ c.test_coherent.ensures _ c.in_ok-test_coherent.was _ sheet

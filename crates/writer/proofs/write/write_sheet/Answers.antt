@@ -1,75 +1,44 @@
--- `write_sheet` meets its contract: the page has room for the sheet, and what it holds up to the sheet's length is copied.
-use Prim.Native.Nat.{ℕ}
-use native.Mathlib.Nat.{zero-add}
-use mathlib.Core.List.{List}
-use mathlib.Core.Path.{◌∙◌, ap}
-use lib.ListN.{length, replicate}
-use Rattle.pages.specs.Filled.{filled}
-use Rattle.pages.proofs.Copied.{page_start, page_room, page_size}
+-- `write_sheet` meets its contract: the page has room for the sheet.
+use Rattle.std.proofs.Common.{List, ℕ, ◌++◌, ap, ◌∙◌}
+use Rattle.std.proofs.lemmas.Result.{err_from_is_err_and}
 use Rattle.writer.specs.Writing.{sheet_bytes}
-use Rattle.writer.proofs.Replies.{counts_few, sheet_room, wrote_12, wrote_14, wrote}
-use mathlib.Core.Bool.{not}
+use Rattle.writer.proofs.Replies.{reply_12, buffer_12, counts_few, sheet_room, reply_14, buffer_14, reply_0, buffer_0}
 use Rattle.writer.proofs.write.write_sheet.Goals as goal
 
-pub returns-then-not-is_coherent : goal.returns-then-not-is_coherent
-returns-then-not-is_coherent c =
-    let said =
-    wrote_12
-    c.args.state
-    c.is_coherent.result
-    c.is_coherent.ensures
-    c.args.out.now
-    (ap not c.if-not-is_coherent.true) _
-    c.turn_down.ensures in
-    record { reply = said.0; bytes = said.1 }
+pub returns-in_err-test_coherent-clause-reply : goal.returns-in_err-test_coherent-clause-reply
+returns-in_err-test_coherent-clause-reply c =
+    let p = err_from_is_err_and c.from_residual.result c.from_residual.ensures.1 in
+    rw (p.1, p.2) (reply_12 c.args.state _ c.test_coherent.ensures _ c.in_err-test_coherent.was _)
 
-pub put_sheet-length-requires : goal.put_sheet-length-requires
-put_sheet-length-requires c =
-    let few = counts_few c.args.state c.is_coherent.result c.is_coherent.ensures (ap not c.if-not-is_coherent.false) in
-    record { events = few.0; rules = few.1 }
+pub returns-in_err-test_coherent-clause-bytes : goal.returns-in_err-test_coherent-clause-bytes
+returns-in_err-test_coherent-clause-bytes c =
+    buffer_12 c.args.state _ c.test_coherent.ensures _ c.in_err-test_coherent.was _
 
-pub returns-then-out-length : goal.returns-then-out-length
-returns-then-out-length c =
-    let said =
-    wrote_14
-    c.args.state
-    c.is_coherent.result
-    c.is_coherent.ensures
-    c.args.out.now
-    (ap not c.if-not-is_coherent.false) _
-    (c.put_sheet-length.ensures.ends ∙ zero-add _)
-    c.if-out-length.true _
-    c.turn_down-then-out-length.ensures in
-    record { reply = said.0; bytes = said.1 }
+pub put_sheet-requires : goal.put_sheet-requires
+put_sheet-requires c =
+    let found = c.test_coherent.ensures in
+    let was = c.in_ok-test_coherent.was in
+    let few = counts_few c.args.state _ found _ was in
+    record { events = few.0; rules = few.1; room = rw c.new-page.ensures (sheet_room c.args.state _ found _ was) }
 
-pub slice_bounds-page-end : goal.slice_bounds-page-end
-slice_bounds-page-end c = page_room
-    (replicate 320 0)
-    (sheet_bytes c.args.state.plan) _ _
-    c.put_sheet-length.ensures
-    (sheet_room _ _ c.is_coherent.ensures (ap not c.if-not-is_coherent.false))
-
-pub slice_bounds-fill-end : goal.slice_bounds-fill-end
-slice_bounds-fill-end c = page_size
-    (replicate 320 0)
-    (sheet_bytes c.args.state.plan) _ _
-    c.put_sheet-length.ensures
-    (sheet_room _ _ c.is_coherent.ensures (ap not c.if-not-is_coherent.false))
+pub returns-then-out-sheet : goal.returns-then-out-sheet
+returns-then-out-sheet c =
+    let found = c.test_coherent.ensures in
+    let was = c.in_ok-test_coherent.was in
+    let bytes = sheet_bytes c.args.state.plan in
+    let sheet = c.text-sheet.ensures ∙ c.put_sheet.ensures ∙ ap (λ (l : List ℕ). l ++ bytes) c.new-page.ensures in
+    record {
+      reply = reply_14 c.args.state _ found _ was _ sheet _ c.if-out-sheet.true;
+      bytes = buffer_14 c.args.state _ found _ was _ sheet _ c.if-out-sheet.true;
+    }
 
 pub returns : goal.returns
 returns c =
-    let text = sheet_bytes c.args.state.plan in
-    let room = sheet_room _ _ c.is_coherent.ensures (ap not c.if-not-is_coherent.false) in
-    let page = page_start (replicate 320 0) text _ _ c.put_sheet-length.ensures room in
-    let bytes = c.fill.ensures ∙ ap (λ (l : List ℕ). filled l c.args.out.now) page in
-    let said =
-    wrote
-    c.args.state
-    c.is_coherent.result
-    c.is_coherent.ensures
-    c.args.out.now
-    (ap not c.if-not-is_coherent.false) _
-    (c.put_sheet-length.ensures.ends ∙ zero-add (length text))
-    c.if-out-length.false _
-    bytes in
-    record { reply = said.0; bytes = said.1 }
+    let found = c.test_coherent.ensures in
+    let was = c.in_ok-test_coherent.was in
+    let bytes = sheet_bytes c.args.state.plan in
+    let sheet = c.text-sheet.ensures ∙ c.put_sheet.ensures ∙ ap (λ (l : List ℕ). l ++ bytes) c.new-page.ensures in
+    record {
+      reply = reply_0 c.args.state _ found _ was _ sheet _ c.if-out-sheet.false;
+      bytes = buffer_0 c.args.state _ found _ was _ sheet _ c.if-out-sheet.false _ c.fill.ensures;
+    }

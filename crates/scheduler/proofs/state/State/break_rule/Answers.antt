@@ -7,6 +7,6 @@ pub returns-then-rule-lt16 : goal.returns-then-rule-lt16
 unfolding break_rule
 returns-then-rule-lt16 c = simp (lt-ltb _ _ c.if-rule-lt16.true)
 
-pub returns : goal.returns
+pub returns-else-rule-lt16 : goal.returns-else-rule-lt16
 unfolding break_rule
-returns c = simp (le-ltb _ _ c.if-rule-lt16.false)
+returns-else-rule-lt16 c = simp (le-ltb _ _ c.if-rule-lt16.false)

@@ -1,14 +1,10 @@
 -- `State::close_step` meets its contract.
-use mathlib.Core.Path.{◌∙◌}
-use Rattle.scheduler.proofs.CallSteps.{says_no, says_yes, call_incoherent, take_call_lem}
-use mathlib.Core.Bool.{not}
-use mathlib.Core.Path.{ap}
+use mathlib.Core.Path.{sym, ◌∙◌}
+use Rattle.scheduler.proofs.CallSteps.{call_incoherent, take_call_lem}
 use Rattle.scheduler.proofs.state.State.close_step.Goals as goal
 
 pub returns-then-not-is_coherent : goal.returns-then-not-is_coherent
-returns-then-not-is_coherent c = c.turn_down.ensures
-    ∙ call_incoherent _ _ (says_no _ _ c.is_coherent.ensures (ap not c.if-not-is_coherent.true))
+returns-then-not-is_coherent c = c.turn_down.ensures ∙ call_incoherent _ _ (sym c.is_coherent.ensures ∙ c.if-not-is_coherent.true)
 
 pub returns : goal.returns
-returns c = c.take_close.ensures
-    ∙ take_call_lem _ _ (says_yes _ _ c.is_coherent.ensures (ap not c.if-not-is_coherent.false))
+returns c = c.take_close.ensures ∙ take_call_lem _ _ (sym c.is_coherent.ensures ∙ c.if-not-is_coherent.false)

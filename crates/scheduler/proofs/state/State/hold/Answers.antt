@@ -7,6 +7,6 @@ pub returns-then-event-lt16 : goal.returns-then-event-lt16
 unfolding hold
 returns-then-event-lt16 c = simp (lt-ltb _ _ c.if-event-lt16.true)
 
-pub returns : goal.returns
+pub returns-else-event-lt16 : goal.returns-else-event-lt16
 unfolding hold
-returns c = simp (le-ltb _ _ c.if-event-lt16.false)
+returns-else-event-lt16 c = simp (le-ltb _ _ c.if-event-lt16.false)

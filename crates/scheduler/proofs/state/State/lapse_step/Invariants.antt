@@ -1,10 +1,8 @@
--- `State::lapse_step` meets its contract. The loop's invariant is `Lapsing`.
+-- `State::lapse_step` meets its contract. The loop: what is left of the lapsing from e on is the whole.
 use Prim.Native.Nat.{◌-◌}
-use Rattle.scheduler.proofs.CallLoops.{Lapsing}
+use mathlib.Core.Path.{◌≡◌}
+use Rattle.scheduler.specs.Calls.{lapse}
 use Rattle.scheduler.proofs.state.State.lapse_step.Given as goal
 
 abbrev pub invariant-loop-e : goal.invariant-loop-e
-invariant-loop-e l = Lapsing l.events l.standings l.step l.n l.initial.next l.e l.next
-
-abbrev pub decreases-loop-e : goal.decreases-loop-e
-decreases-loop-e l = l.n - l.e
+invariant-loop-e l = lapse (l.e-end - l.e) l.e l.self l.step ≡ lapse l.e-end 0 l.initial.self l.step

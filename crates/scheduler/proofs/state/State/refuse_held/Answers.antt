@@ -1,14 +1,24 @@
 -- `State::refuse_held` meets its contract. The loop: the refusals that are left wind up the whole.
-use borrow.Author.Tests.{not-true, not-false}
-use mathlib.Core.Path.{sym, ◌∙◌}
+use native.Mathlib.Omega.{arith}
+use Prim.Native.Nat.{ℕ, ◌+◌, ◌-◌}
+use mathlib.Core.Path.{◌≡◌, sym, ◌∙◌, ap}
+use Rattle.scheduler.specs.Calls.{settle, refuse_held}
 use Rattle.scheduler.proofs.SettleLoops.{refuse_rest, refuse_more, refuse_end}
 use Rattle.scheduler.proofs.state.State.refuse_held.Goals as goal
 
-pub returns-then-not-turned : goal.returns-then-not-turned
-returns-then-not-turned c = sym (c.loop-left.invariant ∙ refuse_rest c.loop-left.next _ c.refuse_lowest-turned.ensures c.loop-left.left c.loop-left-test.true (not-true _ c.if-not-turned.true))
+pub returns-in_default : goal.returns-in_default
+returns-in_default c =
+    sym (c.loop-turn.invariant
+    ∙ refuse_rest c.loop-turn.self c.view.result c.view.ensures _ (omega (arith, c.loop-turn-test.true)) (sym c.in_default.ensures))
 
-pub loop-left-preserved : goal.loop-left-preserved
-loop-left-preserved c = c.loop-left.invariant ∙ refuse_more c.loop-left.next _ c.refuse_lowest-turned.ensures c.loop-left.left c.loop-left-test.true (not-false _ c.if-not-turned.false)
+pub loop-turn-preserved : goal.loop-turn-preserved
+loop-turn-preserved c =
+    let left = 16 - c.loop-turn._turn in
+    let less : left - 1 ≡ 16 - (c.loop-turn._turn + 1) = omega arith in
+    c.loop-turn.invariant
+    ∙ refuse_more c.loop-turn.self c.view.result c.view.ensures left (omega (arith, c.loop-turn-test.true)) _ (sym c.in-Some.ensures)
+    ∙ ap (refuse_held (left - 1)) (sym (c.settle.ensures ∙ ap settle c.settle_as.ensures))
+    ∙ ap (λ (n : ℕ). refuse_held n c.settle.new.self) less
 
 pub returns : goal.returns
-returns c = sym (c.loop-left.invariant ∙ refuse_end c.loop-left.left _ c.loop-left-test.false)
+returns c = sym (c.loop-turn.invariant ∙ refuse_end _ c.loop-turn.self (omega (arith, c.loop-turn-test.false)))

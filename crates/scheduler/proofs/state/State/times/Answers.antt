@@ -3,4 +3,4 @@ use Rattle.scheduler.proofs.Timings.{timing_of}
 use Rattle.scheduler.proofs.state.State.times.Goals as goal
 
 pub returns : goal.returns
-returns c = timing_of _ _ c.times_of.ensures
+returns c = timing_of _ _ c.of.ensures

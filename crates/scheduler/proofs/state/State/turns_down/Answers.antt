@@ -1,22 +1,26 @@
 -- `State::turns_down` meets its contract.
-use mathlib.Core.Bool.{Bool, false, not, ◌||◌, or-false}
-use mathlib.Core.Path.{refl, sym, ◌∙◌, ap, ap₂}
-use Rattle.plan.proofs.Arrays.{read_in, read_past}
+use mathlib.Core.Bool.{Bool, not, ◌||◌}
+use mathlib.Core.Path.{refl, sym, ◌∙◌, ap}
+use Rattle.scheduler.specs.State.{closed_at}
 use Rattle.scheduler.specs.Answers.{turns_down}
 use Rattle.scheduler.proofs.CallSteps.{submit_turns, close_turns, finish_turns, move_turns}
 use Rattle.scheduler.proofs.state.State.turns_down.Goals as goal
 
-pub returns-then-step-lt8 : goal.returns-then-step-lt8
-returns-then-step-lt8 c = ap₂ (λ (a b : Bool). not a || b) (c.has_event.ensures c.args.self.plan refl refl) (sym (read_in 8 c.args.self.closed _ false c.if-step-lt8.true))
-    ∙ close_turns c.args.self _
-    ∙ ap (turns_down c.args.self) (sym c.in-Close.is)
-
 pub returns-in-Submit : goal.returns-in-Submit
 returns-in-Submit c = submit_turns _ _ ∙ ap (turns_down _) (sym c.in-Submit.is)
 
-pub returns-else-step-lt8 : goal.returns-else-step-lt8
-returns-else-step-lt8 c = sym (or-false (not c.has_event-in-Close.result))
-    ∙ ap₂ (λ (a b : Bool). not a || b) (c.has_event-in-Close.ensures c.args.self.plan refl refl) (sym (read_past 8 c.args.self.closed _ false c.if-step-lt8.false))
+pub returns-then-not-has_event : goal.returns-then-not-has_event
+returns-then-not-has_event c =
+    let not-any = c.if-not-has_event.true in
+    ap not not-any
+    ∙ ap (λ (b : Bool). not b || closed_at c.args.self c.in-Close.step) (sym not-any ∙ c.has_event.ensures c.args.self.plan refl refl)
+    ∙ close_turns c.args.self _
+    ∙ ap (turns_down c.args.self) (sym c.in-Close.is)
+
+pub returns-else-not-has_event : goal.returns-else-not-has_event
+returns-else-not-has_event c =
+    c.is_closed.ensures
+    ∙ ap (λ (b : Bool). not b || closed_at c.args.self c.in-Close.step) (sym c.if-not-has_event.false ∙ c.has_event.ensures c.args.self.plan refl refl)
     ∙ close_turns c.args.self _
     ∙ ap (turns_down c.args.self) (sym c.in-Close.is)
 

@@ -3,4 +3,4 @@ use mathlib.Core.Path.{refl}
 use Rattle.scheduler.proofs.state.State.view.Goals as goal
 
 pub returns : goal.returns
-returns c = c.view_of.ensures _ refl refl
+returns c = c.of.ensures _ refl refl

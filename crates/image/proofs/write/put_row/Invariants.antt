@@ -1,0 +1,11 @@
+-- `put_row` meets its contract.
+use Rattle.std.proofs.Common.{◌≡◌, length}
+use Rattle.std.specs.Fn.{FnReturnsAt}
+use Rattle.image.specs.Internal.Writes.{IsRowPut}
+use Rattle.image.proofs.write.put_row.Given as goal
+
+abbrev pub invariant-loop-i : goal.invariant-loop-i
+invariant-loop-i g l = record {
+  long : length l.image ≡ 384;
+  put : IsRowPut (FnReturnsAt g.F.Fn l.byte) l.at l.row l.i l.initial.image l.image;
+}

@@ -1,2 +1,0 @@
--- Definitions that only private functions' contracts cite: nothing here has to be believed.
-pub mod Names
