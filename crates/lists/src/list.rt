@@ -110,7 +110,7 @@ fn make(state: &mut State, made: Call)
 
 // Skips the runner's calls from an offset on that leave the state as it is, turned down or not, up to one that may
 // change it, a bad record or the last byte. Gives where the list goes on, and how many calls were turned down by then.
-// The loop is kept so short that its place in memory matters little.
+// Where the loop lies badly in memory, a list of such calls takes up to twice as long.
 fn skip_idle(state: &State, calls: &[u8], from: usize, before: usize) -> (usize, usize)
     requires { (coherent state.now ≡ true) × (before ≤ from) × (from ≤ length calls.now) }
     ensures ahead { from ≤ result.0 }
