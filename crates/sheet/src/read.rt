@@ -61,10 +61,14 @@ fn checked_record(reader: &Reader, plan: &Plan) -> Result<(Kind, Record), Refusa
     ensures faulty { IfErr result (λ e. IsFaulty plan.now reader.now.sheet.now reader.now.at e) }
 {
     let at = reader.at;
+    let len = reader.sheet.len();
     let rec = reader.record();
-    let kind = check_record(plan, reader.sheet.len(), at, rec).map_err(|fault| Refusal {
-        fault,
-        at,
-    })?;
+    let check = check_record(plan, len, at, rec);
+    // The else branch cannot bind the fault, so the check is mapped there.
+    let Ok(kind) = check else {
+        return check
+            .map(|kind| (kind, rec))
+            .map_err(|fault| Refusal { fault, at });
+    };
     Ok((kind, rec))
 }
