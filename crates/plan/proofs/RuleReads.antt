@@ -53,6 +53,10 @@ module _ (p : Plan) where
     bit_past ge is =
         bit ∙ ap (holds_bit k) (is ∙ attributes_read events blank_event e same (sym (read_past 16 events e blank_event ge)))
 
+  -- the same of an event by another name for it
+  pub bit_named : (k n e : ℕ) (r : Bool) → n ≡ e → r ≡ holds_bit k (attributes_of p n) → r ≡ holds_bit k (attributes_of p e)
+  bit_named k n e r same h = h ∙ ap (λ (x : ℕ). holds_bit k (attributes_of p x)) same
+
   module _ (rule : Rule) (a b : ℕ) where
     pub order_enforced : (x y : Bool)
         → rule ≡ Order a b

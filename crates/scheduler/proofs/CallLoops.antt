@@ -21,6 +21,15 @@ use Rattle.scheduler.specs.Answers.{unclosed_at}
 use Rattle.plan.proofs.Tests.{and_left, and_right, and_both, clash, either, any_false, any_none, any_some, any_found}
 use Rattle.scheduler.proofs.Branches.{lapse_yes, lapse_no}
 
+pub break_yes : (is : Bool) (s : State) (i : ℕ) → is ≡ true → break_rule s i ≡ break_if is s i
+break_yes is s i h = rw h
+
+-- past the places no rule is recorded
+break_past : (is : Bool) (s : State) (i : ℕ) → 16 ≤ i → break_if is s i ≡ s
+unfolding break_rule
+break_past true s i ge = rw (le-ltb i 16 ge)
+break_past false s i ge = refl
+
 -- doing an event alone: the loop over the rules has recorded those below i
 module _ (s : State) (e : ℕ) (after : State) where
   -- none at first
@@ -58,6 +67,11 @@ module _ (s : State) (e : ℕ) (after : State) where
     pub record_passed : stands s i ≡ false → record_broken (i + 1) s e after ≡ next
     record_passed marked =
         record_next false (sym (ap (λ (b : Bool). b && (forbids s.plan (fate_of s) (rule_at s.plan i) e || owes s.plan (fate_of after) (rule_at s.plan i))) marked))
+
+    pub record_past : 16 ≤ i → record_broken (i + 1) s e after ≡ next
+    record_past ge =
+        let is = stands s i && (forbids s.plan (fate_of s) (rule_at s.plan i) e || owes s.plan (fate_of after) (rule_at s.plan i)) in
+        record_next is refl ∙ break_past is next i ge
 
   -- all at last
   pub record_all : (i : ℕ) (next : State)

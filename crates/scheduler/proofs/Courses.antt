@@ -1,7 +1,7 @@
 -- What calls change: put back beside the plan it is the state again, since no call changes the plan.
 use Prim.Native.Nat.{ℕ, zero, suc}
 use mathlib.Core.Bool.{Bool, true, false, ◌&&◌}
-use mathlib.Core.List.{List}
+use mathlib.Core.List.{List, [], ◌∷◌}
 use Rattle.std.specs.declared.option.Option.{Option}
 use Rattle.std.specs.declared.option.Option.TheVariants.{None as none, Some as some}
 use mathlib.Core.Path.{◌≡◌, refl, sym, ◌∙◌, ap}
@@ -11,7 +11,7 @@ use Rattle.scheduler.specs.Prelude.{Refused, Lapsed, Plan, State}
 use Rattle.plan.specs.Fates.{is_open}
 use Rattle.plan.specs.Plans.{event_count, step_of, rejectable, delayable}
 use Rattle.scheduler.specs.State.{fate_of, hold, settle_as, shut, set_minute, course_of, with_course}
-use Rattle.scheduler.specs.Orders.{chosen, do_all}
+use Rattle.scheduler.specs.Orders.{chosen, do_one, do_all}
 use Rattle.scheduler.specs.Calls.{to_refuse, to_do, settle_once, settle_up_to, settle, decide, submit, lapse, close_step, refuse_held, finish, advance_to}
 use Rattle.plan.proofs.Tests.{some_none}
 use Rattle.scheduler.proofs.Branches.{up_to-none, up_to-some, decide_order, decide_refuse, decide_alone, submit_same, submit_delayed, submit_decided, lapse_yes, lapse_no, lowest_held, refuse_none, refuse_some}
@@ -22,6 +22,11 @@ use Rattle.scheduler.proofs.Doing.{alone_plan}
 pub with_course_lem : (s t : State) (r : Course) → r ≡ course_of t → t.plan ≡ s.plan → with_course s r ≡ t
 with_course_lem s t r same p =
     ap (with_course s) same ∙ ap (λ (q : Plan). record { plan = q; standings = t.standings; broken = t.broken; closed = t.closed; history = t.history; history_len = t.history_len; minute = t.minute }) (sym p)
+
+-- no event past the places becomes held
+pub hold_none : (s : State) → hold s 16 ≡ s
+unfolding hold
+hold_none s = refl
 
 -- settling keeps the plan
 pub plan_once : (s u : State) → settle_once s ≡ some u → u.plan ≡ s.plan
@@ -36,6 +41,25 @@ plan_once s u h = go (to_refuse s) refl (to_do s) refl
     go none r (some o) q =
         let w : do_all s o ≡ u = cc (rw (r, q, settle_once) at h) in
         ap (λ (v : State). v.plan) (sym w) ∙ plan-do_all s o
+
+broken-do_all : (s : State) (o : List ℕ) → (do_all s o).broken ≡ s.broken
+unfolding do_all settle_as
+broken-do_all s [] = refl
+broken-do_all s (c ∷ o) = broken-do_all (do_one s c) o
+
+-- a turn of settling records no rule
+pub broken_once : (s u : State) → settle_once s ≡ some u → u.broken ≡ s.broken
+unfolding settle_once settle_as
+broken_once s u h = go (to_refuse s) refl (to_do s) refl
+  where
+    go : (r : Option ℕ) → to_refuse s ≡ r → (d : Option (List ℕ)) → to_do s ≡ d → u.broken ≡ s.broken
+    go (some e) r d q =
+        let w : settle_as Refused s e ≡ u = cc (rw (r, settle_once) at h) in
+        ap (λ (v : State). v.broken) (sym w)
+    go none r none q = absurd (some_none (sym (rw (r, q, settle_once) at h)))
+    go none r (some o) q =
+        let w : do_all s o ≡ u = cc (rw (r, q, settle_once) at h) in
+        ap (λ (v : State). v.broken) (sym w) ∙ broken-do_all s o
 
 plan_up : (n : ℕ) (s : State) → (settle_up_to n s).plan ≡ s.plan
 unfolding settle_up_to

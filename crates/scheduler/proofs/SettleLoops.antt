@@ -12,6 +12,7 @@ use Rattle.std.specs.declared.option.Option.TheVariants.{None as none, Some as s
 use mathlib.Core.Path.{◌≡◌, refl, sym, ◌∙◌, ap, fun_ext}
 use lib.Dec.{eqb, ltb}
 use lib.ListN.{length, get_or, take, drop, drop_of_length-le}
+use lib.Seq.{length-take-le, take_all}
 use Rattle.std.proofs.lemmas.List.{drop_more}
 use Rattle.scheduler.specs.declared.order.Found.{Found}
 use Rattle.scheduler.specs.declared.order.Place.{Place}
@@ -80,6 +81,13 @@ pub order_missing : (s : State) (q : Option (List ℕ)) → none ≡ found_order
 unfolding found_order
 order_missing s none same = refl
 order_missing s (some o) same = absurd (some_none (sym same))
+
+-- how many the first n of an array of six are
+pub front_some : {A : Type 0} (l : List A) (n : ℕ) → length l ≡ 6 → n < 6 → length (take n l) ≡ n
+front_some l n six lt = length-take-le n l (omega arith)
+
+pub front_whole : {A : Type 0} (l : List A) (n : ℕ) → length l ≡ 6 → 6 ≤ n → length (take n l) ≡ 6
+front_whole l n six ge = ap length (take_all n l (omega arith)) ∙ six
 
 -- a loop over an order's places: the next is settled by its mark, and at the end nothing is left
 module _ (places : List Place) (i : ℕ) (s : State) where

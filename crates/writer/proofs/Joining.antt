@@ -1,16 +1,27 @@
 -- Records one after another: how many bytes they take.
-use Prim.Native.Nat.{ℕ, suc, ◌*◌, ◌≤◌}
+use Prim.Native.Nat.{ℕ, zero, suc, ◌+◌, ◌*◌, ◌≤◌}
 use mathlib.Core.Bool.{true, false}
 use mathlib.Core.Logic.{inl, inr}
+use native.Mathlib.Nat.{add-zero}
 use native.Mathlib.Omega.{arith}
 use mathlib.Core.List.{List, [], ◌∷◌, ◌++◌, append_assoc}
-use mathlib.Core.Path.{◌≡◌, refl, ◌∙◌, ap}
+use mathlib.Core.Path.{◌≡◌, refl, sym, ◌∙◌, ap}
 use lib.ListN.{length, length-append}
+use Rattle.plan.specs.Base.{tabulate}
 use Rattle.plan.specs.Plans.{event_count, rule_count, is_window}
 use Rattle.plan.proofs.Tests.{either}
 use Rattle.writer.specs.Types.{Event, Rule, Order, Need, Conditional, Window, Plan}
 use Rattle.writer.specs.Writing.{events_of, rules_of, windows_of, event_record, rule_record, timed_record, window_record, window_bytes, joined, sheet_bytes, sheet_length}
 use Rattle.writer.proofs.Declared.{events_count, rules_count, windows_count}
+
+module _ {A : Type 0} (g : ℕ → A) where
+  -- those made from a function: one more
+  pub tabulate_next : (n i : ℕ) → tabulate (suc n) i g ≡ tabulate n i g ++ (g (i + n) ∷ [])
+  unfolding tabulate
+  tabulate_next zero i = ap (λ (k : ℕ). g k ∷ []) (sym (add-zero i))
+  tabulate_next (suc n) i =
+      ap (λ (l : List A). g i ∷ l)
+      (tabulate_next n (suc i) ∙ ap (λ (k : ℕ). tabulate n (suc i) g ++ (g k ∷ [])) (omega arith))
 
 -- an event takes three bytes, a rule three or four
 pub events_length : (vs : List Event) → length (joined event_record vs) ≡ 3 * length vs

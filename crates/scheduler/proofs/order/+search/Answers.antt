@@ -1,6 +1,8 @@
 -- `search` meets its contract.
 use native.Mathlib.Omega.{arith}
-use mathlib.Core.Path.{sym, ◌∙◌, ap}
+use Rattle.std.proofs.Common.{rules}
+use mathlib.Core.Bool.{Bool}
+use mathlib.Core.Path.{sym, ◌∙◌, ap, ap₂}
 use Rattle.std.specs.declared.option.Option.{Option}
 use Rattle.std.specs.declared.option.Option.TheVariants.{Some as some}
 use Rattle.scheduler.specs.declared.order.Found.{Found}
@@ -85,9 +87,9 @@ returns t c =
     elim c.if-is_some.branch [
       | then-is_some+in_ok-found w ↦
           let made = w.settle_as.ensures ∙ ap (λ (f : Fate). settle_as f s x) (w.done_as.ensures ∙ ap done_as told) in
-          ap (λ (r : Found). some (with_event r c.args.at x c.is_open-opened.result)) w.found-is
+          ap₂ (λ (r : Found) (b : Bool). some (with_event r c.args.at x b)) w.found-is (search rules)
           ∙ took.hit _ (rw made at w.in_ok-found.ensures)
       | else-is_some w ↦
-          ap (λ (r : Found). some (with_event r c.args.at x c.is_open-opened.result)) (w.found-is ∙ c.blank_order-found.ensures)
+          ap₂ (λ (r : Found) (b : Bool). some (with_event r c.args.at x b)) (w.found-is ∙ c.blank_order-found.ensures) (search rules)
           ∙ took.last (sym c.lowest_of-3.ensures ∙ lowest_missing _ (sym w.if-is_some.ensures))
     ]
