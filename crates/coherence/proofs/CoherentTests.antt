@@ -2,7 +2,7 @@
 use Rattle.std.proofs.lemmas.Bool.{and_left as and_fails_left, and_right as and_fails_right}
 use Prim.Native.Nat.{ℕ, ◌≤◌, ◌<◌}
 use native.Mathlib.Omega.{arith}
-use borrow.Author.Tests.{lt-ltb, ltb-false, not-true, lt-leb, le-leb}
+use borrow.Author.Tests.{lt-ltb, ltb-false, leb-true, not-true, not-false, lt-leb, le-leb}
 use mathlib.Core.Bool.{Bool, true, false, not, ◌&&◌, ◌||◌, and-true, and-false}
 use mathlib.Core.List.{List}
 use mathlib.Core.Logic.{inl, inr}
@@ -274,6 +274,16 @@ awaits_not p f h (Order a b) not = refl
 awaits_not p f h (Need a b) not = refl
 awaits_not p f h (Conditional a b c) not = absurd (not a b c refl)
 
+-- an order and a need await nothing
+module _ (p : Plan) (f : Fates) (h : List Entry) (rule : Rule) (a b : ℕ) where
+  pub order_awaits : rule ≡ Order a b → false ≡ awaits p f h rule
+  unfolding awaits
+  order_awaits is = rw is
+
+  pub need_awaits : rule ≡ Need a b → false ≡ awaits p f h rule
+  unfolding awaits
+  need_awaits is = rw is
+
 -- what a conditional awaits, as the code reads it
 abbrev unstoppable_as : Event → Fate → Bool
 unstoppable_as v x = is_open x && not (holds_bit 2 v.attributes) && not (holds_bit 4 v.attributes)
@@ -315,6 +325,18 @@ module _ (events : List Event) (standings : List Standing) (places : List ℕ) (
 module _ (p : Plan) (len : ℕ) (f : Fates) (broken closed : List Bool) (h : List Entry) where
   abbrev few : Bool
   few = leb (event_count p) 16 && leb (rule_count p) 16 && leb len 16
+
+  pub few_events : not few ≡ false → event_count p ≤ 16
+  few_events is =
+      leb-true (event_count p) 16
+      (and_left (leb (event_count p) 16) (leb (rule_count p) 16)
+      (and_left (leb (event_count p) 16 && leb (rule_count p) 16) (leb len 16) (not-false few is)))
+
+  pub few_rules : not few ≡ false → rule_count p ≤ 16
+  few_rules is =
+      leb-true (rule_count p) 16
+      (and_right (leb (event_count p) 16) (leb (rule_count p) 16)
+      (and_left (leb (event_count p) 16 && leb (rule_count p) 16) (leb len 16) (not-false few is)))
 
   abbrev declared : Bool
   declared = declared_only h (event_count p)

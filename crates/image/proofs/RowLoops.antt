@@ -1,15 +1,16 @@
 -- Loops over rows, at their start and at each turn: bytes that are written from an offset on, and tests of every place.
 use Prim.Native.Nat.{ℕ, zero, suc, ◌+◌, ◌*◌, ◌≤◌, ◌<◌}
 use native.Mathlib.Numerals.{add-one}
-use native.Mathlib.Nat.{add-zero}
+use native.Mathlib.Nat.{le_antisymm, add-zero}
 use native.Mathlib.Omega.{arith}
-use mathlib.Core.Bool.{Bool, true, ◌&&◌, and_comm}
+use mathlib.Core.Bool.{Bool, true, false, ◌&&◌, and_comm}
 use mathlib.Core.List.{List}
 use mathlib.Core.Path.{◌≡◌, refl, sym, ◌∙◌, ap}
+use mir.Val.{bool_byte}
 use lib.ListN.{length, get_or, set}
 use Rattle.std.proofs.Math.Seq.{paste, paste-suc}
 use Rattle.std.proofs.lemmas.List.Edits.{paste_none}
-use Rattle.plan.specs.Base.{all_below}
+use Rattle.plan.specs.Base.{one_if, all_below}
 use Rattle.image.specs.Layout.{word_byte, row_byte}
 use Rattle.image.specs.Internal.Writes.{put_to}
 use Rattle.image.proofs.Words.{row_byte_lem}
@@ -65,6 +66,11 @@ put_pasted at s l (suc n) le room =
     sym (paste-suc l at s n 0 (omega arith) (omega arith))
     ∙ ap (λ (x : List ℕ). set x (at + n) (get_or s n 0)) (put_pasted at s l n (omega arith) (omega arith))
 
+-- a mark as a byte
+pub mark_one : (b : Bool) → bool_byte b ≡ one_if b
+mark_one true = refl
+mark_one false = refl
+
 -- tests of every place
 module _ (t : ℕ → Bool) where
   pub all_none : true ≡ all_below 0 t
@@ -74,3 +80,6 @@ module _ (t : ℕ → Bool) where
   pub all_next : (n : ℕ) (a b : Bool) → b ≡ all_below n t → a ≡ t n → (b && a) ≡ all_below (n + 1) t
   unfolding all_below
   all_next n a b h e = rw add-one (and_comm b a ∙ ap (λ (x : Bool). x && b) e ∙ ap (λ (x : Bool). t n && x) h)
+
+  pub all_all : (k n : ℕ) (b : Bool) → n ≤ k → k ≤ n → b ≡ all_below n t → b ≡ all_below k t
+  all_all k n b le ge h = h ∙ ap (λ (x : ℕ). all_below x t) (le_antisymm le ge)

@@ -3,13 +3,13 @@ use Prim.Native.Nat.{ℕ, ◌-◌, ◌*◌, ◌%◌, ◌^◌, ◌≤◌, ◌<◌
 use native.Mathlib.Decide.{ℕ_discrete}
 use native.Mathlib.Omega.{arith}
 use borrow.Author.Tests.{lt-ltb, le-ltb, ltb-true}
-use mathlib.Core.Bool.{Bool, true, false, not, ◌&&◌, ◌||◌, and-true, and-false}
+use mathlib.Core.Bool.{Bool, true, false, not, ◌&&◌, ◌||◌, and-true, and-false, and_comm as bool-and-comm}
 use mathlib.Core.Path.{◌≡◌, ◌∙◌}
 use lib.Bits.{bit_and, bit_or}
 use lib.Dec.{eqb, ltb}
 use mir.Syntax.{w16}
 use Rattle.std.proofs.lemmas.Bool.Decides.{nat_tests}
-use Rattle.std.proofs.lemmas.Nat.{one_shl}
+use Rattle.std.proofs.lemmas.Nat.{one_shl, pow_pos}
 use Rattle.std.proofs.lemmas.Nat.Bits.{bit_at-lt, bit_at-zero, bit_at_and, bit_at_or, bit_at_not, bit_at_ones, bit_at_ones_above, bit_at_set_same, bit_at_set_other}
 use Rattle.plan.proofs.Tests.{and_left, and_right}
 use Rattle.members.specs.Sets.{in_set}
@@ -70,6 +70,12 @@ in_more m e x lt = elim (ℕ_discrete x e) [
   | no ne ↦ grind (arith, nat_tests, bit_at_set_other w16 m e lt x ne)
 ]
 
+pub in_lone : (e x : ℕ) → e < 16 → in_set (lone e) x ≡ eqb x e
+in_lone e x lt = in_more 0 e x lt ∙ rw (in_zero x) (grind (arith, nat_tests))
+
+pub lone_some : (n : ℕ) → n < 16 → 1 ≤ lone n
+lone_some n lt = rw (one_shl n 16 lt) (pow_pos n)
+
 -- one event more, where told to
 module _ (m e : ℕ) (is : Bool) (x : ℕ) where
   pub in_with : (is && ltb e 16) ≡ true
@@ -77,6 +83,9 @@ module _ (m e : ℕ) (is : Bool) (x : ℕ) where
   in_with h =
       in_more m e x (ltb-true e 16 (and_right is (ltb e 16) h))
       ∙ rw (and_right is (ltb e 16) h, and_left is (ltb e 16) h, and-true)
+
+  pub in_kept : (is && ltb e 16) ≡ false → in_set m x ≡ ((eqb x e && (ltb e 16 && is)) || in_set m x)
+  in_kept h = rw (bool-and-comm (ltb e 16) is, h, and-false)
 
 -- a set made by adding one event to none
 pub in_one : (e one : ℕ)

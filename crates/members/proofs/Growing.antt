@@ -4,13 +4,14 @@ use native.Mathlib.Decide.{ℕ_discrete}
 use native.Mathlib.Nat.{le_antisymm}
 use native.Mathlib.Omega.{arith}
 use borrow.Author.Tests.{not-true, not-false, lt-ltb, eqb-true, eq-eqb, ne_eqb}
-use mathlib.Core.Bool.{Bool, true, false, not, ◌&&◌, ◌||◌, and-true}
+use mathlib.Core.Bool.{Bool, true, false, not, ◌&&◌, ◌||◌, and-true, and-false}
 use mathlib.Core.Logic.{◌⊎◌, inl, inr, ⊎_elim}
 use mathlib.Core.Path.{◌≡◌, refl, sym, ◌∙◌, ap}
 use lib.Dec.{eqb, ltb}
+use Rattle.plan.specs.declared.rule.Rule.TheVariants.{Order}
 use Rattle.plan.specs.Base.{count_below}
 use Rattle.plan.specs.Fates.{Fates, is_settled}
-use Rattle.plan.specs.Plans.{rule_count, rule_at}
+use Rattle.plan.specs.Plans.{rule_count, rule_at, delayable}
 use Rattle.plan.proofs.Tests.{and_left, and_right, and_both, and_not, or_either, or_right_true, clash, count_more, count_zero}
 use Rattle.orders.specs.Closed.{Events, Stands, Wants, Closed, asks, target, Fit}
 use Rattle.orders.proofs.Closure.{count_within, asks_wants, wants_asks, wants_unsettled, wants_more}
@@ -39,6 +40,10 @@ module _ (m n : Events) (t : ℕ) (is : (x : ℕ) → n x ≡ (eqb x t || m x)) 
   count_one lt out = count_more 16 m n t lt out one_in (λ x ne. sym (is x ∙ rw (ne_eqb x t ne)))
 
 -- what a rule lacks
+itself : (a b c : Bool) → (((a && b) && c) && not a) ≡ false
+itself true b c = and-false (b && c)
+itself false b c = refl
+
 module _ (p : Plan) (f : Fates) where
   module _ (m : Events) (r : Rule) where
     abbrev wanted : Bool
@@ -61,6 +66,11 @@ module _ (p : Plan) (f : Fates) where
     unfolding lacks
     lacks_nothing h w =
         not-false _ (and_not wanted _ h (and_both _ _ (wants_asks p f m r w) (rw (wants_unsettled w))))
+
+  -- the blank rule lacks nothing: it asks for its own b
+  pub lacks_blank : (m : Events) → lacks p f m (Order 0 0) ≡ false
+  unfolding lacks asks
+  lacks_blank m = itself (m 0) (delayable p 0) (not (is_settled (f 0)))
 
   -- a closed set that holds the members has the event that a rule lacks
   pub within_fit : (l : ℕ → Bool) (m n : Events) (r : Rule)
@@ -170,6 +180,9 @@ module _ (p : Plan) (l : ℕ → Bool) (f : Fates) (able e : ℕ) where
     -- a broken rule
     pub pass_broken : l i ≡ false → Passing m n (i + 1)
     pass_broken h = pass_on (λ stands. absurd (clash stands h))
+
+    pub pass_blank : rule_at p i ≡ Order 0 0 → Passing m n (i + 1)
+    pass_blank is = pass_on (λ stands. ap (lacks p f (in_set n.set)) is ∙ lacks_blank p f (in_set n.set))
 
     -- a rule that stands
     module _ (r : Rule) (here : Stands p l r) (at : rule_at p i ≡ r) where

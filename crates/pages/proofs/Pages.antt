@@ -1,13 +1,14 @@
 -- Bytes put into a page from an offset on, by whether it has room for them, and the text of a page that they end.
 use Prim.Native.Nat.{ℕ, ◌+◌, ◌≤◌, ◌<◌}
+use native.Mathlib.Nat.{zero-add}
 use native.Mathlib.Omega.{arith}
 use mathlib.Core.List.{List, ◌++◌}
 use mathlib.Core.Logic.{inl, inr}
-use mathlib.Core.Path.{◌≡◌, refl, sym, ◌∙◌}
+use mathlib.Core.Path.{◌≡◌, refl, sym, ◌∙◌, ap}
 use borrow.Author.Tests.{le-leb, lt-leb}
 use borrow.Rule.Slice.PartMut.{put_mid}
 use lib.ListN.{length, take, drop, length-append}
-use lib.Seq.{sets-eq}
+use lib.Seq.{length-sets, sets-eq, take_at}
 use Rattle.std.proofs.lemmas.Bool.{cases_lt}
 use Rattle.std.proofs.lemmas.List.{take_all}
 use Rattle.std.proofs.lemmas.Slice.{put_mid-paste}
@@ -22,6 +23,27 @@ put_within at bytes end ends within = elim (cases_lt 320 (at + length bytes)) [
   | inl full ↦ let e = rw (lt-leb (at + length bytes) 320 full) at ends in omega (arith, e, within)
   | inr room ↦ let e = rw (le-leb (at + length bytes) 320 room) at ends in omega (arith, e, room)
 ]
+
+-- a page that has room for the text
+module _ (page text after : List ℕ) (end : ℕ) (put : Put page 0 text after end) (room : length text ≤ length page) where
+  -- its length stays
+  pub page_length : length after ≡ length page
+  unfolding written
+  page_length = ap length put.bytes ∙ length-sets page 0 text
+
+  -- it starts with the text
+  pub page_start : take end after ≡ text
+  unfolding written
+  page_start =
+      let e : end ≡ length text = omega (arith, put.ends) in
+      rw (put.bytes, e, sets-eq text page 0 (omega arith)) (take_at text (drop (0 + length text) page) (length text) refl)
+
+  -- where the text ends
+  pub page_room : end ≤ length after
+  page_room = omega (arith, page_length, put.ends)
+
+  pub page_size : end ≡ length (take end after)
+  page_size = put.ends ∙ zero-add (length text) ∙ ap length (sym page_start)
 
 module _ (page : List ℕ) (at : ℕ) (bytes : List ℕ) where
   -- what putting comes to

@@ -5,3 +5,4 @@ pub mod Reading
 pub mod ReaderOwned
 pub mod ArrayStore
 pub mod PlanStored
+pub mod KindLaws
