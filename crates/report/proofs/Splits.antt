@@ -1,13 +1,15 @@
 -- How a report's texts split into those that are put one after another.
-use Prim.Native.Nat.{ℕ, ◌+◌, ◌<◌, min}
+use Prim.Native.Nat.{ℕ, ◌+◌, ◌≤◌, ◌<◌, min}
 use native.Mathlib.Decide.{dec_lt}
 use native.Mathlib.Numerals.{add-one}
 use native.Mathlib.Omega.{arith}
 use mathlib.Core.List.{List, [], ◌∷◌, ◌++◌, append-nil, append_assoc}
-use mathlib.Core.Path.{◌≡◌, refl, sym, ◌∙◌, ap}
+use mathlib.Core.Path.{◌≡◌, refl, sym, ◌∙◌, ap, subst}
 use lib.ListN.{length, get_or, take, drop, take-append-drop}
 use lib.Seq.{take-suc, take_all}
-use Rattle.report.specs.Types.{Held, Refused, Refusal, Outcome, Ok, Err, Entry, State}
+use Rattle.pages.specs.Written.{Put}
+use Rattle.pages.proofs.Pages.{After, put_after}
+use Rattle.report.specs.Types.{Fate, Held, Refused, Refusal, Outcome, Ok, Err, Entry, State}
 use Rattle.plan.specs.Plans.{event_count, rule_count}
 use Rattle.scheduler.specs.State.{lines}
 use Rattle.plan.specs.Histories.{blank_entry}
@@ -36,6 +38,17 @@ refused_lead = fate_word Refused ++ (32 ∷ [])
 
 abbrev pub at_lead : List ℕ
 at_lead = (32 ∷ at_word) ++ (32 ∷ [])
+
+-- the end of a line is put, of the fate that a test told
+pub fate_put : (page : List ℕ) (at : ℕ) (after : List ℕ) (end : ℕ) {x y : Fate}
+    → x ≡ y
+    → at + length (fate_end x) ≤ 320
+    → After page at (fate_end y) after end
+    → Put page at (fate_end x) after end
+fate_put page at after end {x} {y} e room h =
+    let same = ap fate_end e in
+    subst (λ (text : List ℕ). Put page at text after end) (sym same)
+    (put_after page at (fate_end y) (omega (arith, ap length same)) after end h)
 
 -- a history line, the first line, the last lines, the whole report, and the line of a sheet turned down
 pub entry_split : (l : Entry) → entry_line l ≡ decimal l.event ++ fate_end l.fate
