@@ -322,7 +322,7 @@ module _ (events : List Event) (standings : List Standing) (places : List ℕ) (
       rw (is, hu, hv, hw, hz, done a q.0, done b q.1, fate a q.0, fate b q.1, fate c q.2, event a q.0, event b q.1, event c q.2)
 
 -- the tests of number 12 in turn: the first that fails decides
-module _ (p : Plan) (len : ℕ) (f : Fates) (broken closed : List Bool) (h : List Entry) where
+module _ (p : Plan) (len : ℕ) where
   abbrev few : Bool
   few = leb (event_count p) 16 && leb (rule_count p) 16 && leb len 16
 
@@ -338,46 +338,51 @@ module _ (p : Plan) (len : ℕ) (f : Fates) (broken closed : List Bool) (h : Lis
       (and_right (leb (event_count p) 16) (leb (rule_count p) 16)
       (and_left (leb (event_count p) 16 && leb (rule_count p) 16) (leb len 16) (not-false few is)))
 
-  abbrev declared : Bool
-  declared = declared_only h (event_count p)
+  module _ (f : Fates) (broken closed : List Bool) (h : List Entry) where
+    abbrev declared : Bool
+    declared = declared_only h (event_count p)
 
-  abbrev events : Bool
-  events = events_cohere p f closed h
+    abbrev events : Bool
+    events = events_cohere p f closed h
 
-  pub many_events : 16 < event_count p → coheres p f broken closed h len ≡ false
-  unfolding coheres
-  many_events many = rw (lt-leb (event_count p) 16 many)
+    pub many_fail : not few ≡ true → coheres p f broken closed h len ≡ false
+    unfolding coheres
+    many_fail bad = rw (not-true few bad)
 
-  pub many_rules : 16 < rule_count p → coheres p f broken closed h len ≡ false
-  unfolding coheres
-  many_rules many = rw (lt-leb (rule_count p) 16 many, and-false (leb (event_count p) 16))
+    pub many_events : 16 < event_count p → coheres p f broken closed h len ≡ false
+    unfolding coheres
+    many_events many = rw (lt-leb (event_count p) 16 many)
 
-  pub many_lines : 16 < len → coheres p f broken closed h len ≡ false
-  unfolding coheres
-  many_lines many = rw (lt-leb len 16 many, and-false (leb (event_count p) 16 && leb (rule_count p) 16))
+    pub many_rules : 16 < rule_count p → coheres p f broken closed h len ≡ false
+    unfolding coheres
+    many_rules many = rw (lt-leb (rule_count p) 16 many, and-false (leb (event_count p) 16))
 
-  pub events_fail : events ≡ false → coheres p f broken closed h len ≡ false
-  unfolding coheres
-  events_fail bad = rw (bad, and-false (few && declared))
+    pub many_lines : 16 < len → coheres p f broken closed h len ≡ false
+    unfolding coheres
+    many_lines many = rw (lt-leb len 16 many, and-false (leb (event_count p) 16 && leb (rule_count p) 16))
 
-  -- a history that does not go with the events
-  pub lines_fail : (declared && all_below (event_count p) (λ e. listed_as h e (f e))) ≡ false
-      → coheres p f broken closed h len ≡ false
-  unfolding coheres
-  lines_fail bad = elim (either declared) [
-    | inr d ↦ rw (d, and-false few)
-    | inl d ↦ events_fail (elim (either events) [
-      | inr e ↦ e
-      | inl e ↦ absurd (clash (all_of (event_count p) (λ k. listed_as h k (f k))
-          (λ k lt. event_listed p f closed h k (all_at (event_count p) (event_coheres p f closed h) e k lt))) (and_not declared _ bad d))
-    ])
-  ]
+    pub events_fail : events ≡ false → coheres p f broken closed h len ≡ false
+    unfolding coheres
+    events_fail bad = rw (bad, and-false (few && declared))
 
-  pub rules_decide : event_count p ≤ 16
-      → rule_count p ≤ 16
-      → len ≤ 16
-      → declared ≡ true
-      → events ≡ true
-      → coheres p f broken closed h len ≡ (rules_cohere p f broken h && sound_windows p)
-  unfolding coheres
-  rules_decide es rs ls d e = rw (le-leb (event_count p) 16 es, le-leb (rule_count p) 16 rs, le-leb len 16 ls, d, e)
+    -- a history that does not go with the events
+    pub lines_fail : (declared && all_below (event_count p) (λ e. listed_as h e (f e))) ≡ false
+        → coheres p f broken closed h len ≡ false
+    unfolding coheres
+    lines_fail bad = elim (either declared) [
+      | inr d ↦ rw (d, and-false few)
+      | inl d ↦ events_fail (elim (either events) [
+        | inr e ↦ e
+        | inl e ↦ absurd (clash (all_of (event_count p) (λ k. listed_as h k (f k))
+            (λ k lt. event_listed p f closed h k (all_at (event_count p) (event_coheres p f closed h) e k lt))) (and_not declared _ bad d))
+      ])
+    ]
+
+    pub rules_decide : event_count p ≤ 16
+        → rule_count p ≤ 16
+        → len ≤ 16
+        → declared ≡ true
+        → events ≡ true
+        → coheres p f broken closed h len ≡ (rules_cohere p f broken h && sound_windows p)
+    unfolding coheres
+    rules_decide es rs ls d e = rw (le-leb (event_count p) 16 es, le-leb (rule_count p) 16 rs, le-leb len 16 ls, d, e)
