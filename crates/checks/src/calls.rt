@@ -29,7 +29,9 @@ pub fn any_call_at(bytes: &[u8], at: usize) -> CallRead
     }
 }
 
-// Skips the finishes that follow one another from an offset on.
+// Skips the finishes that follow one another from an offset on. (In a function of its own the loop is a few bytes long,
+// and its place in memory does not matter.)
+#[inline(never)]
 pub fn skip_finishes(bytes: &[u8], from: usize) -> usize
     ensures ahead { from ≤ result }
     ensures inside { from ≤ length bytes.now → result ≤ length bytes.now }

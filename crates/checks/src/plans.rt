@@ -39,7 +39,7 @@ pub fn has_event(events: [Event; 16], count: u8, step: u8) -> bool
     ensures { (p : Plan) → p.events ≡ events → event_count p ≡ count → result ≡ has_event p step }
 {
     for e in 0..count {
-        if event_at(events, e).step == step {
+        if event_at(&events, e).step == step {
             return true;
         }
     }
@@ -47,8 +47,8 @@ pub fn has_event(events: [Event; 16], count: u8, step: u8) -> bool
 }
 
 // The event in a place; past the 16 places there are none.
-pub(crate) fn event_at(events: [Event; 16], e: u8) -> Event
-    ensures { result ≡ read_at 16 events e blank_event }
+pub(crate) fn event_at(events: &[Event; 16], e: u8) -> Event
+    ensures { result ≡ read_at 16 events.now e blank_event }
 {
     events.get(e as usize).copied().unwrap_or(NO_EVENT)
 }

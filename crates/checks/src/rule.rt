@@ -29,17 +29,17 @@ pub fn is_enforceable(events: [Event; 16], rule: Rule) -> bool
 {
     match rule {
         Rule::Order(a, b) => {
-            is_delayable(event_at(events, b).attributes)
-                | is_rejectable(event_at(events, a).attributes)
+            is_delayable(event_at(&events, b).attributes)
+                | is_rejectable(event_at(&events, a).attributes)
         }
         Rule::Need(a, b) => {
-            is_rejectable(event_at(events, a).attributes)
-                | is_forcible(event_at(events, b).attributes)
+            is_rejectable(event_at(&events, a).attributes)
+                | is_forcible(event_at(&events, b).attributes)
         }
         Rule::Conditional(a, b, c) => {
-            is_rejectable(event_at(events, a).attributes)
-                | is_rejectable(event_at(events, b).attributes)
-                | is_forcible(event_at(events, c).attributes)
+            is_rejectable(event_at(&events, a).attributes)
+                | is_rejectable(event_at(&events, b).attributes)
+                | is_forcible(event_at(&events, c).attributes)
         }
     }
 }

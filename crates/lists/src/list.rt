@@ -110,7 +110,6 @@ fn make(state: &mut State, made: Call)
 
 // Skips the runner's calls from an offset on that leave the state as it is, turned down or not, up to one that may
 // change it, a bad record or the last byte. Gives where the list goes on, and how many calls were turned down by then.
-// Where the loop lies badly in memory, a list of such calls takes up to twice as long.
 fn skip_idle(state: &State, calls: &[u8], from: usize, before: usize) -> (usize, usize)
     requires { (coherent state.now ≡ true) × (before ≤ from) × (from ≤ length calls.now) }
     ensures ahead { from ≤ result.0 }
@@ -118,17 +117,15 @@ fn skip_idle(state: &State, calls: &[u8], from: usize, before: usize) -> (usize,
         → Underway decoding s calls.now state.now from before
         → Underway decoding s calls.now state.now result.0 result.1 }
 {
-    let count = state.plan.event_count;
     let mut at = from;
     let mut refused = before;
-    while at + 1 < calls.len() {
+    loop {
+        (at, refused) = skip_submits(state, calls, at, refused);
+        if calls.len() <= at + 1 {
+            break;
+        }
         let number = calls[at + 1];
         match calls[at] {
-            SUBMIT if count <= number => {
-                refused += 1; // no such event
-                at += 2;
-            }
-            SUBMIT if !is_open(state.standings[number as usize].fate) => at += 2,
             CLOSE if number < 8 && state.closed[number as usize] => {
                 refused += 1;
                 at += 2;
@@ -146,6 +143,31 @@ fn skip_idle(state: &State, calls: &[u8], from: usize, before: usize) -> (usize,
             }
             _ => break,
         }
+    }
+    (at, refused)
+}
+
+// As `skip_idle`, of the submits that follow one another from an offset on. A list of submits that change nothing is
+// this loop alone, so it is kept short: its place in memory then matters little.
+fn skip_submits(state: &State, calls: &[u8], from: usize, before: usize) -> (usize, usize)
+    requires { (coherent state.now ≡ true) × (before ≤ from) × (from ≤ length calls.now) }
+    ensures ahead { from ≤ result.0 }
+    ensures inside { (result.0 ≤ length calls.now) × (result.1 ≤ result.0) }
+    ensures same { (first : List ℕ → CallRead) (decoding : List ℕ → Decoded) (s : State) → IsCodec first decoding
+        → Underway decoding s calls.now state.now from before
+        → Underway decoding s calls.now state.now result.0 result.1 }
+{
+    let count = state.plan.event_count;
+    let mut at = from;
+    let mut refused = before;
+    while at + 1 < calls.len() && calls[at] == SUBMIT {
+        let number = calls[at + 1];
+        if count <= number {
+            refused += 1; // no such event
+        } else if is_open(state.standings[number as usize].fate) {
+            break;
+        }
+        at += 2;
     }
     (at, refused)
 }

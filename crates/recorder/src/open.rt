@@ -21,7 +21,7 @@ use journal::open::{Journal, JournalFault, Opened};
 use journal::record::NoRecord;
 use plan::answer::SheetFault;
 use plan::calls::{Call, FINISH, SUBMIT};
-use scheduler::state::State;
+use scheduler::state::{Course, State};
 use sheet::kind::body_length;
 use sheet::read::read_sheet;
 
@@ -146,11 +146,24 @@ fn open_records(state: State, bytes: &[u8], from: usize) -> Journal
     let mut state = state;
     let mut at = from;
     loop {
-        at = skip_idle(state, bytes, at);
+        at = skip_idle(&state, bytes, at);
         let verdict = match record_at(bytes, at) {
             Ok(made) if state.turns_down(made) => Err(JournalFault::Broken { at }),
             Ok(made) => {
-                state = state.with_course(state.after_call(made));
+                let Course {
+                    standings,
+                    broken,
+                    closed,
+                    history,
+                    history_len,
+                    minute,
+                } = state.after_call(made);
+                state.standings = standings;
+                state.broken = broken;
+                state.closed = closed;
+                state.history = history;
+                state.history_len = history_len;
+                state.minute = minute;
                 at += call_size(made);
                 continue;
             }
@@ -166,26 +179,41 @@ fn open_records(state: State, bytes: &[u8], from: usize) -> Journal
 
 // Skips the records from an offset on whose calls are accepted and leave the state as it is: submits (hand-ins) of
 // events that are not open, and finishes once nothing is held. The last byte is left to the ordinary way.
-fn skip_idle(state: State, bytes: &[u8], from: usize) -> usize
-    requires { (coherent state ≡ true) × (from ≤ length bytes.now) }
+fn skip_idle(state: &State, bytes: &[u8], from: usize) -> usize
+    requires { (coherent state.now ≡ true) × (from ≤ length bytes.now) }
     ensures ahead { from ≤ result }
-    ensures same { (s : State) (b : ℕ) → Underway s bytes.now b state from → Underway s bytes.now b state result }
+    ensures same { (s : State) (b : ℕ) → Underway s bytes.now b state.now from → Underway s bytes.now b state.now result }
 {
     let mut at = from;
-    while at + 1 < bytes.len() {
-        match bytes[at] {
-            SUBMIT if is_past(&state, bytes[at + 1]) => at += 2,
-            FINISH if !state.turns_down(Call::Finish) && state.is_idle(Call::Finish) => {
-                at = skip_finishes(bytes, at + 1);
-            }
-            _ => return at,
+    loop {
+        at = skip_submits(state, bytes, at);
+        if bytes.len() <= at + 1 || bytes[at] != FINISH {
+            break;
         }
+        if state.turns_down(Call::Finish) || !state.is_idle(Call::Finish) {
+            break;
+        }
+        at = skip_finishes(bytes, at + 1);
     }
     at
 }
 
-// Whether a submit of the event is accepted and changes nothing. `turns_down` and `is_idle` say so too, but a call of
-// them copies the state.
+// As `skip_idle`, of the submits that follow one another from an offset on. A journal of such submits is this loop
+// alone, so it is kept short: its place in memory then matters little.
+fn skip_submits(state: &State, bytes: &[u8], from: usize) -> usize
+    requires { (coherent state.now ≡ true) × (from ≤ length bytes.now) }
+    ensures ahead { from ≤ result }
+    ensures inside { result ≤ length bytes.now }
+    ensures same { (s : State) (b : ℕ) → Underway s bytes.now b state.now from → Underway s bytes.now b state.now result }
+{
+    let mut at = from;
+    while at + 1 < bytes.len() && bytes[at] == SUBMIT && is_past(state, bytes[at + 1]) {
+        at += 2;
+    }
+    at
+}
+
+// Whether a submit of the event is accepted and changes nothing, as `turns_down` and `is_idle` say it too.
 fn is_past(state: &State, event: u8) -> bool
     requires { coherent state.now ≡ true }
     ensures { result ≡ true → (turns_down state.now (Submit event) ≡ false) × (idle state.now (Submit event) ≡ true) }

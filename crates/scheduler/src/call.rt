@@ -130,8 +130,8 @@ impl State {
 
     // Is the call turned down, if the state is coherent? A list needs only this and `after_call`: a sheet's first state
     // is coherent, and every call preserves coherence, so number 12 is not tested call by call.
-    pub fn turns_down(self, made: Call) -> bool
-        ensures { result ≡ turns_down self made }
+    pub fn turns_down(&self, made: Call) -> bool
+        ensures { result ≡ turns_down self.now made }
     {
         match made {
             Call::Submit(event) => self.plan.event_count <= event,
@@ -144,8 +144,8 @@ impl State {
     }
 
     // Would the call, if it is accepted, leave the state as it is? Then a list need not make it.
-    pub fn is_idle(self, made: Call) -> bool
-        ensures { result ≡ idle self made }
+    pub fn is_idle(&self, made: Call) -> bool
+        ensures { result ≡ idle self.now made }
     {
         match made {
             Call::Submit(event) => !is_open(self.fate(event)),

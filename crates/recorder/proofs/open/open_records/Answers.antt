@@ -15,7 +15,7 @@ loop-made-preserved c =
     let u = c.skip_idle-at.ensures.same _ _ c.loop-made.invariant in
     taken u _ c.record_at.ensures _ c.in-Ok.is _ _ _
     (sym c.turns_down.ensures ∙ c.if-turns_down.false)
-    (c.with_course-state.ensures ∙ c.after_call.ensures)
+    c.after_call-history_len.ensures
     c.call_size-at.ensures
     refl
 

@@ -6,7 +6,7 @@ use Rattle.scheduler.proofs.CallSteps.{submit_idle, close_idle, finish_idle, mov
 use Rattle.scheduler.proofs.state.State.is_idle.Goals as goal
 
 pub returns-in-Submit : goal.returns-in-Submit
-returns-in-Submit c = submit_idle c.args.self _ _ _ c.in-Submit.is (c.is_open.ensures ∙ ap is_open c.fate.ensures)
+returns-in-Submit c = submit_idle c.args.self.now _ _ _ c.in-Submit.is (c.is_open.ensures ∙ ap is_open c.fate.ensures)
 
 pub returns-in-Finish : goal.returns-in-Finish
 returns-in-Finish c = finish_idle _ _ _ c.in-Finish.is c.has_held.ensures

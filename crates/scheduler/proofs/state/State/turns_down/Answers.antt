@@ -13,16 +13,16 @@ pub returns-then-not-has_event : goal.returns-then-not-has_event
 returns-then-not-has_event c =
     let not-any = c.if-not-has_event.true in
     ap not not-any
-    ∙ ap (λ (b : Bool). not b || closed_at c.args.self c.in-Close.step) (sym not-any ∙ c.has_event.ensures c.args.self.plan refl refl)
-    ∙ close_turns c.args.self _
-    ∙ ap (turns_down c.args.self) (sym c.in-Close.is)
+    ∙ ap (λ (b : Bool). not b || closed_at c.args.self.now c.in-Close.step) (sym not-any ∙ c.has_event.ensures c.args.self.now.plan refl refl)
+    ∙ close_turns c.args.self.now _
+    ∙ ap (turns_down c.args.self.now) (sym c.in-Close.is)
 
 pub returns-else-not-has_event : goal.returns-else-not-has_event
 returns-else-not-has_event c =
     c.is_closed.ensures
-    ∙ ap (λ (b : Bool). not b || closed_at c.args.self c.in-Close.step) (sym c.if-not-has_event.false ∙ c.has_event.ensures c.args.self.plan refl refl)
-    ∙ close_turns c.args.self _
-    ∙ ap (turns_down c.args.self) (sym c.in-Close.is)
+    ∙ ap (λ (b : Bool). not b || closed_at c.args.self.now c.in-Close.step) (sym c.if-not-has_event.false ∙ c.has_event.ensures c.args.self.now.plan refl refl)
+    ∙ close_turns c.args.self.now _
+    ∙ ap (turns_down c.args.self.now) (sym c.in-Close.is)
 
 pub returns-in-Finish : goal.returns-in-Finish
 returns-in-Finish c = c.has_unclosed.ensures ∙ finish_turns _ ∙ ap (turns_down _) (sym c.in-Finish.is)
