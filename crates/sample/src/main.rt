@@ -1,5 +1,5 @@
 // Runs the reader of sheets, the search, single calls and the readers of a state on small sheets and prints what each
-// gives. The gate compares this with the file `stdout`.
+// gives. The gate compares this with the file `stdout`. Each `print!` and `println!` is one write.
 #![tactic(auto)]
 
 mod show;
@@ -12,7 +12,7 @@ use scheduler::order::Found;
 use scheduler::reply::Reply;
 use scheduler::state::State;
 use sheet::read::read_sheet;
-use show::Shown;
+use show::{Shown, show_event, show_line, show_rule};
 use std::io;
 
 // Two events that can be delayed; the first needs the second and comes before it.
@@ -61,18 +61,23 @@ fn show_calls<R: Print>(rt: &R, first: State) -> io::Result<()> {
 
 // Shows a call's answer and hands on the state after it.
 fn after_call<R: Print>(rt: &R, call: &str, reply: Reply) -> io::Result<State> {
-    println!(rt; "{call} {}", Shown(reply.answer))?;
+    print!(rt; "{call}")?;
+    println!(rt; " {}", Shown(reply.answer))?;
     Ok(reply.state)
 }
 
 // The counts of a state, and what its readers answer for 0, 1 and 2.
 fn show_state<R: Print>(rt: &R, state: State) -> io::Result<()> {
-    let events = readers::event_count(state);
-    let rules = readers::rule_count(state);
-    let lines = readers::line_count(state);
-    let held = readers::held_count(state);
-    let broken = readers::broken_count(state);
-    println!(rt; "events {events} rules {rules} lines {lines} held {held} broken {broken}")?;
+    for (word, count) in [
+        ("events", readers::event_count(state) as usize),
+        (" rules", readers::rule_count(state) as usize),
+        (" lines", readers::line_count(state) as usize),
+        (" held", readers::held_count(state)),
+        (" broken", readers::broken_count(state)),
+    ] {
+        print!(rt; "{word} {count}")?;
+    }
+    println!(rt)?;
     for i in 0..3 {
         show_number(rt, state, i)?;
     }
@@ -81,14 +86,16 @@ fn show_state<R: Print>(rt: &R, state: State) -> io::Result<()> {
 
 // What the readers of a state answer for a number.
 fn show_number<R: Print>(rt: &R, state: State, i: u8) -> io::Result<()> {
-    let event = Shown(read_event(state, i));
-    let fate = Shown(read_fate(state, i));
-    println!(rt; "event {i} {event} {fate}")?;
-    let rule = Shown(read_rule(state, i));
-    let broken = Shown(read_broken(state, i));
-    let closed = Shown(read_closed(state, i));
-    let line = Shown(read_line(state, i));
-    println!(rt; "rule {i} {rule} broken {broken} step {i} closed {closed} line {i} {line}")
+    print!(rt; "event {i}")?;
+    show_event(rt, read_event(state, i))?;
+    println!(rt; " {}", Shown(read_fate(state, i)))?;
+    print!(rt; "rule {i}")?;
+    show_rule(rt, read_rule(state, i))?;
+    print!(rt; " broken {}", Shown(read_broken(state, i)))?;
+    print!(rt; " step {i}")?;
+    print!(rt; " closed {}", Shown(read_closed(state, i)))?;
+    print!(rt; " line {i}")?;
+    show_line(rt, read_line(state, i))
 }
 
 // The calls of a list on a sheet's first state, and once its steps 0 and 1 are closed.
@@ -114,13 +121,15 @@ fn show_effects<R: Print>(rt: &R, first: State) -> io::Result<()> {
 
 // What a call does in a list, where number 12 is not tested: turned down, idle, or so many lines of history after it.
 fn show_effect<R: Print>(rt: &R, name: &str, state: State, made: Call) -> io::Result<()> {
+    print!(rt; "{name}")?;
     if state.turns_down(made) {
-        println!(rt; "{name} turned down")
+        println!(rt; " turned down")
     } else if state.is_idle(made) {
-        println!(rt; "{name} idle")
+        println!(rt; " idle")
     } else {
         let lines = readers::line_count(taken(state, made));
-        println!(rt; "{name} taken, lines {lines}")
+        print!(rt; " taken, lines {lines}")?;
+        println!(rt)
     }
 }
 
@@ -184,8 +193,10 @@ fn show_order<R: Print>(rt: &R, name: &str, state: State, event: u8) -> io::Resu
 // The events of an order.
 fn show_found<R: Print>(rt: &R, found: Found) -> io::Result<()> {
     for place in &found.places[..found.len.min(6) as usize] {
-        let opened = if place.opened { " (open)" } else { "" };
-        print!(rt; " {}{opened}", place.event)?;
+        print!(rt; " {}", place.event)?;
+        if place.opened {
+            print!(rt; " (open)")?;
+        }
     }
     println!(rt)
 }

@@ -5,7 +5,7 @@ use plan::event::Event;
 use plan::fate::Fate;
 use plan::history::Entry;
 use plan::rule::Rule;
-use std::fmt;
+use std::{fmt, io};
 
 // A value that is printed in the sample's words.
 #[derive(Clone, Copy)]
@@ -47,31 +47,50 @@ impl fmt::Display for Shown<Answer> {
     }
 }
 
-impl fmt::Display for Shown<Event> {
-    fn fmt<W: fmt::Write>(&self, f: &mut fmt::Formatter<W>) -> fmt::Result {
-        write!(f, "step {} attributes {}", self.0.step, self.0.attributes)
-    }
-}
-
-impl fmt::Display for Shown<Rule> {
-    fn fmt<W: fmt::Write>(&self, f: &mut fmt::Formatter<W>) -> fmt::Result {
-        match self.0 {
-            Rule::Order(a, b) => write!(f, "order {a} {b}"),
-            Rule::Need(a, b) => write!(f, "need {a} {b}"),
-            Rule::Conditional(a, b, c) => write!(f, "conditional {a} {b} {c}"),
-        }
-    }
-}
-
-// A line of the history.
-impl fmt::Display for Shown<Entry> {
-    fn fmt<W: fmt::Write>(&self, f: &mut fmt::Formatter<W>) -> fmt::Result {
-        write!(f, "event {} {}", self.0.event, Shown(self.0.fate))
-    }
-}
-
 impl fmt::Display for Shown<bool> {
     fn fmt<W: fmt::Write>(&self, f: &mut fmt::Formatter<W>) -> fmt::Result {
         f.write_str(if self.0 { "yes" } else { "no" })
+    }
+}
+
+// What `read_event` answers, a write for each number.
+pub fn show_event<R: Print>(rt: &R, read: Option<Event>) -> io::Result<()> {
+    match read {
+        Some(event) => {
+            print!(rt; " step {}", event.step)?;
+            print!(rt; " attributes {}", event.attributes)
+        }
+        None => print!(rt; " undeclared"),
+    }
+}
+
+// What `read_rule` answers, a write for each number.
+pub fn show_rule<R: Print>(rt: &R, read: Option<Rule>) -> io::Result<()> {
+    match read {
+        Some(Rule::Order(a, b)) => {
+            print!(rt; " order {a}")?;
+            print!(rt; " {b}")
+        }
+        Some(Rule::Need(a, b)) => {
+            print!(rt; " need {a}")?;
+            print!(rt; " {b}")
+        }
+        Some(Rule::Conditional(a, b, c)) => {
+            print!(rt; " conditional {a}")?;
+            print!(rt; " {b}")?;
+            print!(rt; " {c}")
+        }
+        None => print!(rt; " undeclared"),
+    }
+}
+
+// What `read_line` answers, the event and the fate in a write each, and the end of the line.
+pub fn show_line<R: Print>(rt: &R, read: Option<Entry>) -> io::Result<()> {
+    match read {
+        Some(entry) => {
+            print!(rt; " event {}", entry.event)?;
+            println!(rt; " {}", Shown(entry.fate))
+        }
+        None => println!(rt; " undeclared"),
     }
 }
