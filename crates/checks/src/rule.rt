@@ -27,19 +27,18 @@ pub fn are_named(count: u8, rule: Rule) -> bool
 pub fn is_enforceable(events: [Event; 16], rule: Rule) -> bool
     ensures { (p : Plan) → p.events ≡ events → result ≡ enforceable p rule }
 {
+    let (a, b, c) = match rule {
+        Rule::Order(a, b) | Rule::Need(a, b) => (a, b, b),
+        Rule::Conditional(a, b, c) => (a, b, c),
+    };
+    let first = event_at(&events, a).attributes;
+    let second = event_at(&events, b).attributes;
+    let last = event_at(&events, c).attributes;
     match rule {
-        Rule::Order(a, b) => {
-            is_delayable(event_at(&events, b).attributes)
-                | is_rejectable(event_at(&events, a).attributes)
-        }
-        Rule::Need(a, b) => {
-            is_rejectable(event_at(&events, a).attributes)
-                | is_forcible(event_at(&events, b).attributes)
-        }
-        Rule::Conditional(a, b, c) => {
-            is_rejectable(event_at(&events, a).attributes)
-                | is_rejectable(event_at(&events, b).attributes)
-                | is_forcible(event_at(&events, c).attributes)
+        Rule::Order(..) => is_delayable(last) | is_rejectable(first),
+        Rule::Need(..) => is_rejectable(first) | is_forcible(last),
+        Rule::Conditional(..) => {
+            is_rejectable(first) | is_rejectable(second) | is_forcible(last)
         }
     }
 }
