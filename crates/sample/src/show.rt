@@ -54,7 +54,7 @@ impl fmt::Display for Shown<bool> {
 }
 
 // What `read_event` answers, a write for each number.
-pub fn show_event<R: Print>(rt: &R, read: Option<Event>) -> io::Result<()> {
+pub(crate) fn show_event<R: Print>(rt: &R, read: Option<Event>) -> io::Result<()> {
     match read {
         Some(event) => {
             print!(rt; " step {}", event.step)?;
@@ -65,7 +65,7 @@ pub fn show_event<R: Print>(rt: &R, read: Option<Event>) -> io::Result<()> {
 }
 
 // What `read_rule` answers, a write for each number.
-pub fn show_rule<R: Print>(rt: &R, read: Option<Rule>) -> io::Result<()> {
+pub(crate) fn show_rule<R: Print>(rt: &R, read: Option<Rule>) -> io::Result<()> {
     match read {
         Some(Rule::Order(a, b)) => {
             print!(rt; " order {a}")?;
@@ -85,7 +85,7 @@ pub fn show_rule<R: Print>(rt: &R, read: Option<Rule>) -> io::Result<()> {
 }
 
 // What `read_line` answers, the event and the fate in a write each, and the end of the line.
-pub fn show_line<R: Print>(rt: &R, read: Option<Entry>) -> io::Result<()> {
+pub(crate) fn show_line<R: Print>(rt: &R, read: Option<Entry>) -> io::Result<()> {
     match read {
         Some(entry) => {
             print!(rt; " event {}", entry.event)?;
