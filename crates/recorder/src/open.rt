@@ -150,6 +150,7 @@ fn open_records(state: State, bytes: &[u8], from: usize) -> Journal
         let verdict = match record_at(bytes, at) {
             Ok(made) if state.turns_down(made) => Err(JournalFault::Broken { at }),
             Ok(made) => {
+                // In place: `with_course` would copy the plan too.
                 let Course {
                     standings,
                     broken,
@@ -213,7 +214,7 @@ fn skip_submits(state: &State, bytes: &[u8], from: usize) -> usize
     at
 }
 
-// Whether a submit of the event is accepted and changes nothing, as `turns_down` and `is_idle` say it too.
+// Is a submit of the event accepted, and does it change nothing? One test for `turns_down` and `is_idle`.
 fn is_past(state: &State, event: u8) -> bool
     requires { coherent state.now ≡ true }
     ensures { result ≡ true → (turns_down state.now (Submit event) ≡ false) × (idle state.now (Submit event) ≡ true) }
