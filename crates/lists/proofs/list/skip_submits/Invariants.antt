@@ -1,5 +1,4 @@
--- `skip_submits` meets its contract. The loop: every record passed leaves the state as it is, so the run is under way as
--- before.
+-- The loop of `skip_submits`: how far it has come, and that the run is under way there as before.
 use Prim.Native.Nat.{◌≤◌, ◌-◌}
 use lib.ListN.{length}
 use Rattle.std.proofs.Common.{List, ℕ}

@@ -1,5 +1,4 @@
--- `skip_submits` meets its contract. The loop: every record passed leaves the state as it is, so the journal is under way as
--- before.
+-- The loop of `skip_submits`: how far it has come, and that the journal is under way there as before.
 use Prim.Native.Nat.{ℕ, ◌-◌, ◌≤◌}
 use lib.ListN.{length}
 use Rattle.recorder.specs.Types.{State}
